@@ -1,0 +1,69 @@
+// Each public call on its happy path, on values from outside.
+use crate::{Assignment, Clause, Formula, Ids, Line, Lit, LogLines};
+use std::alloc::Global;
+use std::test::Fail;
+
+fn lit(n: i32) -> Result<Lit, Fail> {
+    Ok(Lit::new(n).ok_or("no literal")?)
+}
+
+fn clause(alloc: Global, numbers: &[i32]) -> Result<Clause, Fail> {
+    let mut clause = Clause::new(alloc);
+    for n in numbers {
+        clause.push(lit(*n)?)?;
+    }
+    Ok(clause)
+}
+
+#[test]
+fn reads_dimacs_numbers(rt: HostRuntime) -> Result<(), Fail> {
+    assert_eq!(rt; lit(-7)?.number(), -7);
+    assert_eq!(rt; lit(-7)?.var(), 7);
+    assert_eq!(rt; lit(7)?.negate(), lit(-7)?);
+    assert_eq!(rt; lit(1)?.code(), 0);
+    assert_eq!(rt; lit(-1)?.code(), 1);
+    assert_eq!(rt; lit(-1_000_000)?.number(), -1_000_000);
+    assert_eq!(rt; Lit::new(0), None);
+    assert_eq!(rt; Lit::new(1_000_001), None);
+    assert_eq!(rt; Lit::new(-1_000_001), None);
+    Ok(())
+}
+
+#[test]
+fn meets_a_formula_by_a_true_literal_each(rt: HostRuntime) -> Result<(), Fail> {
+    let alloc = rt.alloc();
+    let mut formula = Formula::new(alloc, 3);
+    let mut model = Assignment::new(alloc, 3)?;
+    assert!(rt; formula.met_by(&model), "the empty formula");
+    let unit = clause(alloc, &[1])?;
+    assert_eq!(rt; unit.lits().len(), 1);
+    assert!(rt; unit.lits()[0].var() <= 3);
+    formula.push(unit)?;
+    assert!(rt; !formula.met_by(&model));
+    model.set(1, true);
+    assert!(rt; formula.met_by(&model));
+    assert!(rt; model.value(1));
+    assert_eq!(rt; model.len(), 3);
+    Ok(())
+}
+
+#[test]
+fn keeps_what_is_pushed(rt: HostRuntime) -> Result<(), Fail> {
+    let alloc = rt.alloc();
+    let mut ids = Ids::new(alloc);
+    ids.push(3)?;
+    ids.push(1)?;
+    assert_eq!(rt; ids.all(), [3, 1].as_slice());
+    let mut same = clause(alloc, &[1, -2])?.copy()?;
+    assert_eq!(rt; same.lits(), [lit(1)?, lit(-2)?].as_slice());
+    same.clear();
+    assert_eq!(rt; same.lits().len(), 0);
+    let mut log = LogLines::new(alloc);
+    log.push(Line::Add {
+        id: 4,
+        clause: same,
+        hints: ids,
+    })?;
+    assert_eq!(rt; log.all().len(), 1);
+    Ok(())
+}
