@@ -1,5 +1,5 @@
 -- the meaning of a proof log in LRAT (Cruz-Filipe et al., CADE 2017): what its lines do, and which are refused
-use Rattle.std.specs.Prelude.{◌≡◌, ℕ, ◌+◌, Bool, true, false, ◌||◌, nat_le, if◌then◌else◌, List, [], ◌∷◌, length, Option, Some, None}
+use Rattle.std.specs.Prelude.{◌≡◌, ℕ, ◌+◌, ◌<◌, ◌≤◌, ◌^◌, All, Bool, true, false, ◌||◌, nat_le, if◌then◌else◌, List, [], ◌∷◌, length, Option, Some, None}
 use Rattle.std.specs.List.{list_any}
 use Rattle.std.specs.Ordering.{nat_cmp}
 use Rattle.std.specs.FinMap as map
@@ -121,3 +121,12 @@ abbrev pub clauses_added : List Line → List (List Literal)
 clauses_added [] = []
 clauses_added (Add id c hints ∷ xs) = c ∷ clauses_added xs
 clauses_added (Delete id ids ∷ xs) = clauses_added xs
+
+-- an id that a log may write
+abbrev pub IsId : ℕ → Type 0
+IsId id = (1 ≤ id) × (id < 2 ^ 63)
+
+-- the line's id, and the ids that it names, are ones that a log may write
+abbrev pub HasIds : Line → Type 0
+HasIds (Add id c hints) = IsId id × All IsId hints
+HasIds (Delete id ids) = IsId id × All IsId ids
