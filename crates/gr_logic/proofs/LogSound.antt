@@ -16,26 +16,32 @@ use Rattle.gr_logic.specs.declared.lines.Line.TheVariants.{Add, Delete}
 use Rattle.gr_logic.proofs.Sound.{rup-sound}
 
 -- what holds of a value holds of what is chosen
-either-Meets : (a : List Bool) (b : Bool) (x y : Option (List Literal)) (c : List Literal) → (x ≡ Some c → Meets a c) → (y ≡ Some c → Meets a c) → (if b then x else y) ≡ Some c → Meets a c
+either-Meets : (a : List Bool) (b : Bool) (x y : Option (List Literal)) (c : List Literal)
+    → (x ≡ Some c → Meets a c) → (y ≡ Some c → Meets a c) → (if b then x else y) ≡ Some c
+    → Meets a c
 either-Meets a true x y c left right e = left e
 either-Meets a false x y c left right e = right e
 
-insert-MeetsLive : (a : List Bool) (live : Clauses) (id : ℕ) (c : List Literal) → MeetsLive a (map.get live) → Meets a c → MeetsLive a (map.get (map.insert live id c))
+insert-MeetsLive : (a : List Bool) (live : Clauses) (id : ℕ) (c : List Literal)
+    → MeetsLive a (map.get live) → Meets a c → MeetsLive a (map.get (map.insert live id c))
 insert-MeetsLive a live id c meets one q d e =
     either-Meets a (eq_by_cmp nat_cmp q id) (Some c) (map.get live q) d (λ same. let s : c ≡ d = cc in subst (Meets a) s one) (meets q d) (sym (map.get-insert nat_cmp_total live id c q) ∙ e)
 
-remove-MeetsLive : (a : List Bool) (live : Clauses) (id : ℕ) → MeetsLive a (map.get live) → MeetsLive a (map.get (map.remove live id))
+remove-MeetsLive : (a : List Bool) (live : Clauses) (id : ℕ) → MeetsLive a (map.get live)
+    → MeetsLive a (map.get (map.remove live id))
 remove-MeetsLive a live id meets q d e =
     either-Meets a (eq_by_cmp nat_cmp q id) None (map.get live q) d (λ none. absurd (cc)) (meets q d) (sym (map.get-remove nat_cmp_total live id q) ∙ e)
 
-without-MeetsLive : (a : List Bool) (ids : List ℕ) (live : Clauses) → MeetsLive a (map.get live) → MeetsLive a (map.get (without live ids))
+without-MeetsLive : (a : List Bool) (ids : List ℕ) (live : Clauses) → MeetsLive a (map.get live)
+    → MeetsLive a (map.get (without live ids))
 without-MeetsLive a [] live meets = meets
 without-MeetsLive a (id ∷ ids) live meets = without-MeetsLive a ids (map.remove live id) (remove-MeetsLive a live id meets)
 
 empty-MeetsLive : (a : List Bool) → MeetsLive a (map.get (map.empty {R = nat_cmp}))
 empty-MeetsLive a q d e = absurd (let none = map.get-empty {X = List Literal} nat_cmp q in cc)
 
-with_clauses-MeetsLive : (a : List Bool) (cs : List (List Literal)) (live : Clauses) (id : ℕ) → MeetsLive a (map.get live) → MeetsAll a cs → MeetsLive a (map.get (with_clauses live id cs))
+with_clauses-MeetsLive : (a : List Bool) (cs : List (List Literal)) (live : Clauses) (id : ℕ)
+    → MeetsLive a (map.get live) → MeetsAll a cs → MeetsLive a (map.get (with_clauses live id cs))
 with_clauses-MeetsLive a [] live id meets all = meets
 with_clauses-MeetsLive a (c ∷ cs) live id meets all =
     with_clauses-MeetsLive a cs (map.insert live id c) (id + 1) (insert-MeetsLive a live id c meets (All-head (Meets a) c cs all)) (All-tail (Meets a) c cs all)
@@ -51,7 +57,8 @@ not-first : {X : Type 0} (b : Bool) (x : X) (o : Option X) → (if b then Some x
 not-first true x o e = absurd (cc)
 not-first false x o e = e
 
-addition-accepted : (s : LogState) (id : ℕ) (c : List Literal) (hints : List ℕ) → addition_cause s id c hints ≡ None → rup (map.get s.live) c hints ≡ Accepted
+addition-accepted : (s : LogState) (id : ℕ) (c : List Literal) (hints : List ℕ)
+    → addition_cause s id c hints ≡ None → rup (map.get s.live) c hints ≡ Accepted
 addition-accepted s id c hints e =
     no-cause id _ (not-first (is_var_above s.vars c) _ _ (not-first (nat_le id s.last) _ _ e))
 
@@ -60,7 +67,9 @@ empty-unmet : (a : List Bool) (c : List Literal) → Meets a c → is_empty c �
 empty-unmet a [] m = absurd (cc)
 empty-unmet a (l ∷ ls) m = refl
 
-line-MeetsLive : (a : List Bool) (s : LogState) (line : Line) → line_cause s line ≡ None → MeetsLive a (map.get s.live) → MeetsLive a (map.get (after_line s line).live) × ((after_line s line).refuted ≡ s.refuted)
+line-MeetsLive : (a : List Bool) (s : LogState) (line : Line) → line_cause s line ≡ None
+    → MeetsLive a (map.get s.live)
+    → MeetsLive a (map.get (after_line s line).live) × ((after_line s line).refuted ≡ s.refuted)
 line-MeetsLive a s (Add id c hints) e meets =
     let one = rup-sound (map.get s.live) c hints (addition-accepted s id c hints e) a meets in
     (insert-MeetsLive a s.live id c meets one, rw (empty-unmet a c one) (or-false s.refuted))
@@ -75,7 +84,9 @@ unrefuted : (a : List Bool) (lines : List Line) (n : ℕ) (s : LogState)
     → MeetsLive a (map.get s.live) → refusal_from n s lines ≡ None → (state_after s lines).refuted ≡ s.refuted
 unrefuted a [] n s meets e = refl
 unrefuted a (x ∷ xs) n s meets e =
-    elim (line_cause s x) as (λ o. line_cause s x ≡ o → first_cause n o (refusal_from (n + 1) (after_line s x) xs) ≡ None → (state_after (after_line s x) xs).refuted ≡ s.refuted) [
+    elim (line_cause s x)
+        as (λ o. line_cause s x ≡ o → first_cause n o (refusal_from (n + 1) (after_line s x) xs) ≡ None
+          → (state_after (after_line s x) xs).refuted ≡ s.refuted) [
       | None ↦ λ is e. let next = line-MeetsLive a s x is meets in unrefuted a xs (n + 1) (after_line s x) next.0 e ∙ next.1
       | Some why ↦ λ _ e. absurd (cc)
     ] refl e
@@ -85,12 +96,15 @@ additions-met : (a : List Bool) (lines : List Line) (n : ℕ) (s : LogState)
     → MeetsLive a (map.get s.live) → refusal_from n s lines ≡ None → All (Meets a) (clauses_added lines)
 additions-met a [] n s meets e = All-nil (Meets a)
 additions-met a (x ∷ xs) n s meets e =
-    elim (line_cause s x) as (λ o. line_cause s x ≡ o → first_cause n o (refusal_from (n + 1) (after_line s x) xs) ≡ None → All (Meets a) (clauses_added (x ∷ xs))) [
+    elim (line_cause s x)
+        as (λ o. line_cause s x ≡ o → first_cause n o (refusal_from (n + 1) (after_line s x) xs) ≡ None
+          → All (Meets a) (clauses_added (x ∷ xs))) [
       | None ↦ λ is e. with-line x is (additions-met a xs (n + 1) (after_line s x) (line-MeetsLive a s x is meets).0 e)
       | Some why ↦ λ _ e. absurd (cc)
     ] refl e
   where
-    with-line : (x : Line) → line_cause s x ≡ None → All (Meets a) (clauses_added xs) → All (Meets a) (clauses_added (x ∷ xs))
+    with-line : (x : Line) → line_cause s x ≡ None → All (Meets a) (clauses_added xs)
+        → All (Meets a) (clauses_added (x ∷ xs))
     with-line (Add id c hints) is later =
         All-cons (Meets a) c (clauses_added xs) (rup-sound (map.get s.live) c hints (addition-accepted s id c hints is) a meets) later
     with-line (Delete id ids) is later = later

@@ -41,7 +41,8 @@ literal_true-negation a l = sign-not l.positive (value_of a l.index)
 abbrev pub AllTrue : List Bool → LiteralSet → Type 0
 AllTrue a set = (q : Literal) → set q ≡ true → literal_true a q ≡ true
 
-with_literal-AllTrue : (a : List Bool) (set : LiteralSet) (l : Literal) → AllTrue a set → literal_true a l ≡ true → AllTrue a (with_literal set l)
+with_literal-AllTrue : (a : List Bool) (set : LiteralSet) (l : Literal) → AllTrue a set
+    → literal_true a l ≡ true → AllTrue a (with_literal set l)
 with_literal-AllTrue a set l all one q e =
     elim (same_literal q l) as (λ b. same_literal q l ≡ b → (b || set q) ≡ true → literal_true a q ≡ true) [
       | true ↦ λ same _. ap (literal_true a) (same_literal-is q l same) ∙ one
@@ -49,26 +50,35 @@ with_literal-AllTrue a set l all one q e =
     ] refl e
 
 -- what is false in a set of true literals is not true
-false_in-not : (a : List Bool) (set : LiteralSet) → AllTrue a set → (l : Literal) → false_in set l ≡ true → literal_true a l ≡ false
+false_in-not : (a : List Bool) (set : LiteralSet) → AllTrue a set → (l : Literal)
+    → false_in set l ≡ true → literal_true a l ≡ false
 false_in-not a set all l e =
     let n : not (literal_true a l) ≡ true = sym (literal_true-negation a l) ∙ all (negation l) e in
     elim (literal_true a l) as (λ b. not b ≡ true → b ≡ false) [ true ↦ λ n. absurd (cc) | false ↦ λ _. refl ] n
 
 -- a true clause has a true literal that is not false in the set
-open-true : (a : List Bool) (set : LiteralSet) → AllTrue a set → (c : List Literal) → list_any (literal_true a) c ≡ true → list_any (literal_true a) (filter (λ l. not (false_in set l)) c) ≡ true
+open-true : (a : List Bool) (set : LiteralSet) → AllTrue a set → (c : List Literal)
+    → list_any (literal_true a) c ≡ true
+    → list_any (literal_true a) (filter (λ l. not (false_in set l)) c) ≡ true
 open-true a set all [] e = e
 open-true a set all (l ∷ ls) e =
-    elim (false_in set l) as (λ b. false_in set l ≡ b → list_any (literal_true a) (if not b then l ∷ filter (λ x. not (false_in set x)) ls else filter (λ x. not (false_in set x)) ls) ≡ true) [
+    elim (false_in set l)
+        as (λ b. false_in set l ≡ b
+          → list_any (literal_true a) (if not b then l ∷ filter (λ x. not (false_in set x)) ls else filter (λ x. not (false_in set x)) ls) ≡ true) [
       | true ↦ λ no. open-true a set all ls (one-true (literal_true a l) (list_any (literal_true a) ls) e (false_in-not a set all l no))
       | false ↦ λ _.
-          elim (literal_true a l) as (λ t. (t || list_any (literal_true a) ls) ≡ true → (t || list_any (literal_true a) (filter (λ x. not (false_in set x)) ls)) ≡ true) [
+          elim (literal_true a l)
+              as (λ t. (t || list_any (literal_true a) ls) ≡ true
+                → (t || list_any (literal_true a) (filter (λ x. not (false_in set x)) ls)) ≡ true) [
             | true ↦ λ _. refl
             | false ↦ λ rest. open-true a set all ls rest
           ] e
     ] refl
 
 -- where all are one literal, that one is true
-forced-true : (a : List Bool) (l : Literal) (ls : List Literal) → list_all (same_literal l) ls ≡ true → list_any (literal_true a) (l ∷ ls) ≡ true → literal_true a l ≡ true
+forced-true : (a : List Bool) (l : Literal) (ls : List Literal)
+    → list_all (same_literal l) ls ≡ true → list_any (literal_true a) (l ∷ ls) ≡ true
+    → literal_true a l ≡ true
 forced-true a l [] all one = elim (literal_true a l) as (λ b. (b || false) ≡ true → b ≡ true) [ true ↦ λ _. refl | false ↦ λ e. e ] one
 forced-true a l (x ∷ xs) all one =
     let both = both-true (same_literal l x) (list_all (same_literal l) xs) all in
@@ -81,15 +91,21 @@ forced-true a l (x ∷ xs) all one =
     ] refl
 
 -- a hint's clause is met, so the steps don't end there
-at_open : (a : List Bool) (id : ℕ) (set : LiteralSet) → AllTrue a set → (go : LiteralSet → Answer) → ((next : LiteralSet) → AllTrue a next → go next ≡ Accepted → ⊥) → (lits : List Literal) → list_any (literal_true a) lits ≡ true → after_reading id set go (reading_of_open lits) ≡ Accepted → ⊥
+at_open : (a : List Bool) (id : ℕ) (set : LiteralSet) → AllTrue a set → (go : LiteralSet → Answer)
+    → ((next : LiteralSet) → AllTrue a next → go next ≡ Accepted → ⊥) → (lits : List Literal)
+    → list_any (literal_true a) lits ≡ true
+    → after_reading id set go (reading_of_open lits) ≡ Accepted → ⊥
 at_open a id set all go sound [] one e = cc
 at_open a id set all go sound (l ∷ ls) one e =
-    elim (list_all (same_literal l) ls) as (λ b. list_all (same_literal l) ls ≡ b → after_reading id set go (if b then Forces l else Undecided) ≡ Accepted → ⊥) [
+    elim (list_all (same_literal l) ls)
+        as (λ b. list_all (same_literal l) ls ≡ b
+          → after_reading id set go (if b then Forces l else Undecided) ≡ Accepted → ⊥) [
       | true ↦ λ same e. sound (with_literal set l) (with_literal-AllTrue a set l all (forced-true a l ls same one)) e
       | false ↦ λ _ e. cc
     ] refl e
 
-pub steps-sound : (a : List Bool) (live : Live) → MeetsLive a live → (hints : List ℕ) (set : LiteralSet) → AllTrue a set → steps live set hints ≡ Accepted → ⊥
+pub steps-sound : (a : List Bool) (live : Live) → MeetsLive a live
+    → (hints : List ℕ) (set : LiteralSet) → AllTrue a set → steps live set hints ≡ Accepted → ⊥
 steps-sound a live meets [] set all e = cc
 steps-sound a live meets (id ∷ ids) set all e =
     elim (live id) as (λ o. live id ≡ o → after_hint id set (λ next. steps live next ids) o ≡ Accepted → ⊥) [
@@ -101,7 +117,8 @@ steps-sound a live meets (id ∷ ids) set all e =
 negated-true : (a : List Bool) (c : List Literal) → clause_true a c ≡ false → AllTrue a (negated c)
 negated-true a [] unmet q e = absurd (cc)
 negated-true a (l ∷ ls) unmet q e =
-    elim (same_literal q (negation l)) as (λ b. same_literal q (negation l) ≡ b → (b || negated ls q) ≡ true → literal_true a q ≡ true) [
+    elim (same_literal q (negation l))
+        as (λ b. same_literal q (negation l) ≡ b → (b || negated ls q) ≡ true → literal_true a q ≡ true) [
       | true ↦ λ same _. ap (literal_true a) (same_literal-is q (negation l) same) ∙ literal_true-negation a l ∙ ap not (none-first (literal_true a l) _ unmet)
       | false ↦ λ _ rest. negated-true a ls (none-rest (literal_true a l) _ unmet) q rest
     ] refl e

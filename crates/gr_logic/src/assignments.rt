@@ -50,6 +50,14 @@ impl Assignment {
         self.values.len() as u32
     }
 
+    /// The values, from variable 1 on.
+    pub fn values(&self) -> &[bool]
+        ensures values { result.now ≡ self.now }
+        ensures small { length result.now ≤ 1_000_000 }
+    {
+        self.values.as_slice()
+    }
+
     /// The value of a variable.
     pub fn value(&self, var: u32) -> bool
         requires low { 0 < var }

@@ -1,5 +1,5 @@
 // A literal.
-ghost use Rattle.std.specs.Prelude.{◌≡◌, ◌≤◌, ◌<◌, ◌↔◌, ℕ, ℤ, IsSome, IfSome};
+ghost use Rattle.std.specs.Prelude.{◌≡◌, ◌≤◌, ◌<◌, ◌-◌, ◌↔◌, ℕ, ℤ, IsSome, IfSome};
 ghost use Rattle.gr_logic.specs.Literals.{Literal, negation, number_of, var_of, IsLiteralNumber};
 ghost use Rattle.gr_logic.specs.Codes.{code_of};
 
@@ -44,6 +44,17 @@ impl Lit {
             2 * ((-n) as u32) - 1
         };
         Some(Lit { code })
+    }
+
+    /// The literal of a variable, counted from 1, and a sign.
+    pub fn of_var(var: u32, positive: bool) -> Lit
+        requires low { 0 < var }
+        requires high { var ≤ 1_000_000 }
+        ensures { result ≡ record { index = var - 1; positive = positive } }
+    {
+        Lit {
+            code: if positive { 2 * var - 2 } else { 2 * var - 1 },
+        }
     }
 
     /// The literal of a code: twice the variable's index, and one more for the negation.

@@ -21,6 +21,7 @@ fn reads_dimacs_numbers(rt: HostRuntime) -> Result<(), Fail> {
     assert_eq!(rt; lit(-7)?.var(), 7);
     assert_eq!(rt; lit(7)?.negate(), lit(-7)?);
     assert_eq!(rt; lit(1)?.code(), 0);
+    assert_eq!(rt; Lit::of_var(3, false), lit(-3)?);
     assert_eq!(rt; lit(-1)?.code(), 1);
     assert_eq!(rt; lit(-1_000_000)?.number(), -1_000_000);
     assert_eq!(rt; Lit::new(0), None);
@@ -43,6 +44,7 @@ fn meets_a_formula_by_a_true_literal_each(rt: HostRuntime) -> Result<(), Fail> {
     model.set(1, true);
     assert!(rt; formula.met_by(&model));
     assert!(rt; model.value(1));
+    assert_eq!(rt; model.values(), [true, false, false].as_slice());
     assert_eq!(rt; model.len(), 3);
     Ok(())
 }
