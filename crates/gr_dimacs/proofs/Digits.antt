@@ -1,0 +1,65 @@
+-- numbers in decimal are read by their value
+use Rattle.std.proofs.Common.{◌≡◌, ◌∙◌, ℕ, suc, ◌+◌, ◌-◌, ◌^◌, ◌≤◌, ◌<◌, Bool, true, false, not, ◌&&◌, List, [], ◌∷◌, length, refl, sym, ap, arith, rules, nat_eq, nat_le, cond, if◌then◌else◌, ◌⊎◌, inl, inr, pos, negsuc}
+use Rattle.std.specs.List.{list_all}
+use Rattle.std.specs.Fmt.{decimal, signed_decimal}
+use Rattle.std.proofs.lemmas.Fmt.{digits_decimal, digits_value-decimal, decimal_nonempty}
+use Rattle.std.proofs.lemmas.Str.Parse.{IsNumeralModel, numerals_by_fold}
+use Rattle.std.proofs.lemmas.Bool.{leb-true}
+use Rattle.std.proofs.lemmas.Grind.{common_steps}
+use Rattle.gr_logic.specs.Literals.{Literal, number_of}
+use Rattle.gr_dimacs.specs.Numbers.{Number, Zero, Lit, is_digit, value, value_after, is_count, sized, digits_number, number}
+
+-- the grammar's digits and values are those of std
+own : IsNumeralModel (λ ds. list_all is_digit ds ≡ true) (value_after 0)
+own = numerals_by_fold _ (search rules) value_after (search rules)
+
+all-count : (ds : List ℕ) → list_all is_digit ds ≡ true → 0 < length ds → is_count ds ≡ true
+all-count [] all some = absurd (omega arith)
+all-count (d ∷ ds) all some = all
+
+pub decimal-is-count : (n : ℕ) → n < 2 ^ 64 → is_count (decimal n) ≡ true
+decimal-is-count n small =
+    all-count (decimal n) (digits_decimal own n small) (decimal_nonempty n small)
+
+pub value-decimal : (n : ℕ) → n < 2 ^ 64 → value (decimal n) ≡ n
+value-decimal n small = digits_value-decimal own n small
+
+both-true : (a b : Bool) → (a && b) ≡ true → (a ≡ true) × (b ≡ true)
+both-true true b h = (refl, h)
+both-true false b h = absurd (cc)
+
+-- a digit is no minus sign
+digit-no-minus : (b : ℕ) → is_digit b ≡ true → nat_eq b 45 ≡ false
+digit-no-minus b h =
+    let low : nat_le 48 b ≡ true = (both-true (nat_le 48 b) (nat_le b 57) h).0 in
+    let above : 48 ≤ b = leb-true 48 b low in
+    grind (arith, common_steps)
+
+number-count : (ds : List ℕ) → is_count ds ≡ true → number ds ≡ sized true (value ds)
+number-count [] h = absurd (cc)
+number-count (d ∷ ds) h =
+    let first : is_digit d ≡ true = (both-true (is_digit d) (list_all is_digit ds) h).0 in
+    let plain = digit-no-minus d first in
+    rw (plain, h) refl
+
+negative-count : (ds : List ℕ) → is_count ds ≡ true → number (45 ∷ ds) ≡ sized false (value ds)
+negative-count ds h = rw h refl
+
+sized-literal : (positive : Bool) (index : ℕ) →
+    sized positive (suc index) ≡ Lit (record { index = index; positive = positive })
+sized-literal positive index =
+    let some : nat_eq (suc index) 0 ≡ false = grind (arith, common_steps) in
+    let less : suc index - 1 ≡ index = omega arith in
+    rw (some, less) refl
+
+-- a literal in decimal is read as this literal
+pub number-literal : (positive : Bool) (index : ℕ) → index < 2 ^ 63 →
+    number (signed_decimal (number_of (record { index = index; positive = positive }))) ≡ Lit
+    (record { index = index; positive = positive })
+number-literal true index small =
+    let next : index + 1 ≡ suc index = omega arith in
+    rw next (number-count (decimal (suc index)) (decimal-is-count (suc index) (omega arith))
+    ∙ ap (sized true) (value-decimal (suc index) (omega arith)) ∙ sized-literal true index)
+number-literal false index small =
+    negative-count (decimal (suc index)) (decimal-is-count (suc index) (omega arith))
+    ∙ ap (sized false) (value-decimal (suc index) (omega arith)) ∙ sized-literal false index

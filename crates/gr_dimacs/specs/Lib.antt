@@ -1,0 +1,14 @@
+pub mod Numbers
+pub mod Tokens
+pub mod Grammar
+pub mod Faults
+pub mod Reads
+pub mod Laws
+pub mod Stands
+pub mod Finds
+pub mod Heads
+pub mod Building
+pub mod Answers
+pub mod Texts
+pub mod Canonical
+pub mod Printed

@@ -1,0 +1,178 @@
+// The header of a formula: `p cnf V C`.
+ghost use Rattle.std.specs.Prelude.{◌≡◌, ◌≤◌, ◌∷◌, []};
+ghost use Rattle.gr_text.specs.Places.{known, limit_of};
+ghost use Rattle.gr_dimacs.specs.Faults.{same_word};
+ghost use Rattle.gr_dimacs.specs.Grammar.{p_word, cnf_word};
+ghost use Rattle.gr_dimacs.specs.Heads.{CountToken, HeadToken, WordToken};
+ghost use Rattle.gr_dimacs.specs.Reads.{IsLawful};
+ghost use Rattle.gr_dimacs.specs.Stands.{Goes, stand};
+ghost use Rattle.gr_dimacs.specs.Texts.{Header};
+
+use crate::builders::Builder;
+use crate::faults::{FaultKind, GrammarFault, ReadError};
+use crate::limits::Limits;
+use crate::numerals;
+use crate::tokens::{Found, next_token};
+use gr_io::Source;
+use gr_text::{ScanError, Scanner};
+use std::alloc::Global;
+
+/// Reads the header, and makes a builder for the clauses that follow it.
+pub fn read_header<S: Source>(
+    alloc: Global,
+    scanner: &mut Scanner<'_, S>,
+    limits: &Limits,
+) -> Result<Builder, ReadError>
+    requires within { known scanner.old.held ≤ limit_of scanner.old.held }
+    requires limits { IsLawful limits.now }
+    ensures same { scanner.new.source.ghost_name ≡ scanner.old.source.ghost_name }
+    ensures goes { Goes
+        (stand scanner.old.held (S.left scanner.old.source.now) (S.faults scanner.old.source.now))
+        (stand scanner.new.held (S.left scanner.new.source.now) (S.faults scanner.new.source.now)) }
+    ensures answer { Header limits.now result
+        (stand scanner.old.held (S.left scanner.old.source.now) (S.faults scanner.old.source.now))
+        (stand scanner.new.held (S.left scanner.new.source.now) (S.faults scanner.new.source.now)) }
+{
+    match header_p(scanner) {
+        Ok(()) => {}
+        Err(failed) => return Err(failed),
+    }
+    match header_cnf(scanner) {
+        Ok(()) => {}
+        Err(failed) => return Err(failed),
+    }
+    let vars = match header_count(scanner, limits.vars as u64) {
+        Ok(vars) => vars,
+        Err(failed) => return Err(failed),
+    };
+    let count = match header_count(scanner, limits.clauses) {
+        Ok(count) => count,
+        Err(failed) => return Err(failed),
+    };
+    Ok(Builder::new(alloc, vars as u32, count, limits.literals))
+}
+
+/// The word `p`.
+fn header_p<S: Source>(scanner: &mut Scanner<'_, S>) -> Result<(), ReadError>
+    ensures same { scanner.new.source.ghost_name ≡ scanner.old.source.ghost_name }
+    ensures goes { Goes
+        (stand scanner.old.held (S.left scanner.old.source.now) (S.faults scanner.old.source.now))
+        (stand scanner.new.held (S.left scanner.new.source.now) (S.faults scanner.new.source.now)) }
+    ensures answer { WordToken p_word FaultKind.NoHeader result
+        (stand scanner.old.held (S.left scanner.old.source.now) (S.faults scanner.old.source.now))
+        (stand scanner.new.held (S.left scanner.new.source.now) (S.faults scanner.new.source.now)) }
+{
+    let line = match header_token(scanner, FaultKind::NoHeader) {
+        Ok(line) => line,
+        Err(failed) => return Err(failed),
+    };
+    if is_p(scanner.token()) {
+        return Ok(());
+    }
+    Err(ReadError::Grammar(GrammarFault {
+        kind: FaultKind::NoHeader,
+        line,
+    }))
+}
+
+/// The word `cnf`.
+fn header_cnf<S: Source>(scanner: &mut Scanner<'_, S>) -> Result<(), ReadError>
+    ensures same { scanner.new.source.ghost_name ≡ scanner.old.source.ghost_name }
+    ensures goes { Goes
+        (stand scanner.old.held (S.left scanner.old.source.now) (S.faults scanner.old.source.now))
+        (stand scanner.new.held (S.left scanner.new.source.now) (S.faults scanner.new.source.now)) }
+    ensures answer { WordToken cnf_word FaultKind.BadHeader result
+        (stand scanner.old.held (S.left scanner.old.source.now) (S.faults scanner.old.source.now))
+        (stand scanner.new.held (S.left scanner.new.source.now) (S.faults scanner.new.source.now)) }
+{
+    let line = match header_token(scanner, FaultKind::BadHeader) {
+        Ok(line) => line,
+        Err(failed) => return Err(failed),
+    };
+    if is_cnf(scanner.token()) {
+        return Ok(());
+    }
+    Err(ReadError::Grammar(GrammarFault {
+        kind: FaultKind::BadHeader,
+        line,
+    }))
+}
+
+/// A count up to the limit.
+fn header_count<S: Source>(scanner: &mut Scanner<'_, S>, limit: u64) -> Result<u64, ReadError>
+    requires { limit ≤ 5_000_000 }
+    ensures same { scanner.new.source.ghost_name ≡ scanner.old.source.ghost_name }
+    ensures goes { Goes
+        (stand scanner.old.held (S.left scanner.old.source.now) (S.faults scanner.old.source.now))
+        (stand scanner.new.held (S.left scanner.new.source.now) (S.faults scanner.new.source.now)) }
+    ensures answer { CountToken limit result
+        (stand scanner.old.held (S.left scanner.old.source.now) (S.faults scanner.old.source.now))
+        (stand scanner.new.held (S.left scanner.new.source.now) (S.faults scanner.new.source.now)) }
+{
+    let line = match header_token(scanner, FaultKind::BadHeader) {
+        Ok(line) => line,
+        Err(failed) => return Err(failed),
+    };
+    match numerals::count(scanner.token()) {
+        None => Err(ReadError::Grammar(GrammarFault {
+            kind: FaultKind::BadHeader,
+            line,
+        })),
+        Some(n) => {
+            if n <= limit {
+                return Ok(n);
+            }
+            Err(ReadError::Grammar(GrammarFault {
+                kind: FaultKind::TooLarge,
+                line,
+            }))
+        }
+    }
+}
+
+/// The next token, by its line. Where the text ends before it, the given fault.
+fn header_token<S: Source>(
+    scanner: &mut Scanner<'_, S>,
+    at_end: FaultKind,
+) -> Result<u64, ReadError>
+    ensures same { scanner.new.source.ghost_name ≡ scanner.old.source.ghost_name }
+    ensures goes { Goes
+        (stand scanner.old.held (S.left scanner.old.source.now) (S.faults scanner.old.source.now))
+        (stand scanner.new.held (S.left scanner.new.source.now) (S.faults scanner.new.source.now)) }
+    ensures answer { HeadToken at_end result
+        (stand scanner.old.held (S.left scanner.old.source.now) (S.faults scanner.old.source.now))
+        (stand scanner.new.held (S.left scanner.new.source.now) (S.faults scanner.new.source.now)) }
+{
+    match next_token(scanner) {
+        Ok(Found::Token { line }) => Ok(line),
+        Ok(Found::End { line }) => Err(ReadError::Grammar(GrammarFault { kind: at_end, line })),
+        Err(ScanError::TooLong { line }) => Err(ReadError::Grammar(GrammarFault {
+            kind: FaultKind::TooLong,
+            line,
+        })),
+        Err(ScanError::ReadFault) => Err(ReadError::ReadFault),
+        Err(ScanError::OutOfMemory) => Err(ReadError::OutOfMemory),
+    }
+}
+
+/// Whether the token is `p`.
+#[tactic(auto, using(crate::proofs::Words::same_word_length))]
+fn is_p(token: &[u8]) -> bool
+    ensures { result ≡ same_word token.now p_word }
+{
+    match token {
+        [a] => *a == b'p',
+        _ => false,
+    }
+}
+
+/// Whether the token is `cnf`.
+#[tactic(auto, using(crate::proofs::Words::same_word_length))]
+fn is_cnf(token: &[u8]) -> bool
+    ensures { result ≡ same_word token.now cnf_word }
+{
+    match token {
+        [a, b, c] => *a == b'c' && *b == b'n' && *c == b'f',
+        _ => false,
+    }
+}
