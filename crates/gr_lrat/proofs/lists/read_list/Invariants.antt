@@ -1,0 +1,23 @@
+use Rattle.std.proofs.Common.{◌≡◌, ◌≤◌, ◌+◌, false, [], length}
+use Rattle.gr_text.specs.Places.{known, limit_of}
+use Rattle.gr_lrat.specs.Lines.{Spelling, IdList, ids_from}
+use Rattle.gr_lrat.specs.Stages.{Onward}
+use Rattle.gr_lrat.proofs.lists.read_list.Given as goal
+
+-- the ids so far and the tokens to come make the list
+abbrev pub invariant-tokens : goal.invariant-tokens
+invariant-tokens g l = record {
+  same : l.scanner.source.ghost_name ≡ l.fn.scanner.source.ghost_name;
+  goes : (made : IdList → Spelling) →
+      Onward (λ ws. made (ids_from false [] ws)) l.fn.scanner.held (g.S.Source.left
+      l.fn.scanner.source.now)
+      (λ ws. made (ids_from l.negative l.ids ws)) l.scanner.held (g.S.Source.left
+      l.scanner.source.now);
+  known_more : known l.fn.scanner.held ≤ known l.scanner.held;
+  limit : limit_of l.scanner.held ≡ limit_of l.fn.scanner.held;
+  onward : l.fn.scanner.held.passed ≤ l.scanner.held.passed;
+  grows : g.S.Source.faults l.fn.scanner.source.now ≤ g.S.Source.faults l.scanner.source.now;
+}
+
+abbrev pub decreases-tokens : goal.decreases-tokens
+decreases-tokens g l = length l.scanner.held.ahead + l.scanner.held.spare

@@ -1,0 +1,89 @@
+use Rattle.std.proofs.Common.{◌∙◌, arith}
+use Rattle.gr_lrat.proofs.Telling.{onward_then, onward_ends, onward_fails, skip_comes, skip_fails}
+use Rattle.gr_lrat.proofs.pieces.skip_rest.Goals as goal
+
+pub returns-in-Err-clause-err : goal.returns-in-Err-clause-err
+returns-in-Err-clause-err g c = λ x.
+    let left = g.S.Source.left in
+    let p = c.args.scanner.now in
+    let q = c.skip_line.new.self in
+    skip_fails c.in-Err.failed x p.held q.held (left p.source.now) (left q.source.now)
+    c.in-Err.ensures.err
+
+pub pieces-init : goal.pieces-init
+pieces-init g c =
+    let left = g.S.Source.left in
+    let p = c.args.scanner.now in
+    let q = c.skip_line.new.self in
+    let k = c.skip_line.ensures.keeps in
+    record {
+      same = c.skip_line.ensures.same;
+      goes = λ x. skip_comes x p.held q.held (left p.source.now) (left q.source.now)
+          c.in-Ok.ensures.ok k.grows;
+      known_more = k.grows;
+      limit = k.limit;
+      onward = c.skip_line.ensures.onward;
+      grows = c.skip_line.ensures.grows;
+    }
+
+pub pieces-preserved : goal.pieces-preserved
+pieces-preserved g c =
+    let left = g.S.Source.left in
+    let p = c.args.scanner.now in
+    let q = c.pieces.scanner in
+    let n = c.next_piece.new.scanner in
+    let i = c.pieces.invariant in
+    let k = c.next_piece.ensures.keeps in
+    let gone = rw c.in-Ok-Token.field-0-is at c.in-Ok-Token.ensures.onward in
+    record {
+      same = c.next_piece.ensures.same ∙ i.same;
+      goes = λ x. onward_then (λ ws. x) (λ ws. x) (λ ws. x) p.held q.held n.held
+          (left p.source.now) (left q.source.now) (left n.source.now) (i.goes x)
+          (rw c.in-Ok-Token.field-0-is at (c.in-Ok-Token.ensures.ok (λ ws. x)));
+      known_more = omega (arith, i.known_more, k.grows);
+      limit = k.limit ∙ i.limit;
+      onward = omega (arith, i.onward, gone);
+      grows = omega (arith, i.grows, c.next_piece.ensures.grows);
+    }
+
+pub returns-in-Ok-End-clause-ok : goal.returns-in-Ok-End-clause-ok
+returns-in-Ok-End-clause-ok g c = λ x.
+    let left = g.S.Source.left in
+    let p = c.args.scanner.now in
+    let q = c.pieces.scanner in
+    let n = c.next_piece.new.scanner in
+    onward_ends (λ ws. x) (λ ws. x) x c.in-Ok-End.end p.held q.held n.held
+    (left p.source.now) (left q.source.now) (left n.source.now)
+    (c.pieces.invariant.goes x) c.next_piece.ensures.keeps.grows
+    (rw c.in-Ok-End.field-0-is at (c.in-Ok-End.ensures.ok (λ ws. x)))
+
+pub returns-in-Ok-End-clause-keeps : goal.returns-in-Ok-End-clause-keeps
+returns-in-Ok-End-clause-keeps g c =
+    let k = c.next_piece.ensures.keeps in
+    let i = c.pieces.invariant in
+    record {
+      limit = k.limit ∙ i.limit;
+      within = k.within;
+      grows = omega (arith, k.grows, i.known_more);
+    }
+
+pub returns-in-Err-next_piece-clause-err : goal.returns-in-Err-next_piece-clause-err
+returns-in-Err-next_piece-clause-err g c = λ x.
+    let left = g.S.Source.left in
+    let p = c.args.scanner.now in
+    let q = c.pieces.scanner in
+    let n = c.next_piece.new.scanner in
+    onward_fails (λ ws. x) (λ ws. x) c.in-Err-next_piece.failed p.held q.held n.held
+    (left p.source.now) (left q.source.now) (left n.source.now)
+    (c.pieces.invariant.goes x) c.next_piece.ensures.keeps.grows
+    (c.in-Err-next_piece.ensures.err (λ ws. x))
+
+pub returns-in-Err-next_piece-clause-keeps : goal.returns-in-Err-next_piece-clause-keeps
+returns-in-Err-next_piece-clause-keeps g c =
+    let k = c.next_piece.ensures.keeps in
+    let i = c.pieces.invariant in
+    record {
+      limit = k.limit ∙ i.limit;
+      within = k.within;
+      grows = omega (arith, k.grows, i.known_more);
+    }

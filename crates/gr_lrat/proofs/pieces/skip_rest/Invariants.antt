@@ -1,0 +1,21 @@
+use Rattle.std.proofs.Common.{◌≡◌, ◌≤◌, ◌+◌, length}
+use Rattle.gr_text.specs.Places.{known, limit_of}
+use Rattle.gr_lrat.specs.Lines.{Spelling}
+use Rattle.gr_lrat.specs.Stages.{Onward}
+use Rattle.gr_lrat.proofs.pieces.skip_rest.Given as goal
+
+-- what is left of the line is still to be passed
+abbrev pub invariant-pieces : goal.invariant-pieces
+invariant-pieces g l = record {
+  same : l.scanner.source.ghost_name ≡ l.fn.scanner.source.ghost_name;
+  goes : (x : Spelling) → Onward (λ ws. x) l.fn.scanner.held (g.S.Source.left
+      l.fn.scanner.source.now)
+      (λ ws. x) l.scanner.held (g.S.Source.left l.scanner.source.now);
+  known_more : known l.fn.scanner.held ≤ known l.scanner.held;
+  limit : limit_of l.scanner.held ≡ limit_of l.fn.scanner.held;
+  onward : l.fn.scanner.held.passed ≤ l.scanner.held.passed;
+  grows : g.S.Source.faults l.fn.scanner.source.now ≤ g.S.Source.faults l.scanner.source.now;
+}
+
+abbrev pub decreases-pieces : goal.decreases-pieces
+decreases-pieces g l = length l.scanner.held.ahead + l.scanner.held.spare

@@ -1,0 +1,21 @@
+use Rattle.gr_lrat.specs.Writing.{literals_text, zero_space}
+use Rattle.gr_lrat.proofs.Printed.{ok-then, err-then}
+use Rattle.gr_lrat.proofs.writers.write_clause.Goals as goal
+
+pub returns-in-Ok-clause-ok : goal.returns-in-Ok-clause-ok
+returns-in-Ok-clause-ok g c =
+    let written = g.K.Sink.written in
+    let begun = c.args.printer.now in
+    let then = c.write_literals.new.printer in
+    ok-then (literals_text c.args.lits.now) zero_space (written begun.sink.now) (written
+    then.sink.now) _
+    begun.pending then.pending _ c.bytes.result c.in-Ok.ensures.ok c.bytes.ensures.ok
+
+pub returns-in-Ok-clause-err : goal.returns-in-Ok-clause-err
+returns-in-Ok-clause-err g c =
+    let written = g.K.Sink.written in
+    let begun = c.args.printer.now in
+    let then = c.write_literals.new.printer in
+    err-then (literals_text c.args.lits.now) zero_space (written begun.sink.now) (written
+    then.sink.now) _
+    begun.pending then.pending c.bytes.result c.in-Ok.ensures.ok c.bytes.ensures.err

@@ -1,0 +1,9 @@
+pub mod Writing
+pub mod Numerals
+pub mod Lines
+pub mod Logs
+pub mod Stages
+pub mod Counts
+pub mod Statements
+pub mod Answers
+pub mod Laws

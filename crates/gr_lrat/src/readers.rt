@@ -1,0 +1,130 @@
+// The reader of logs.
+ghost use Rattle.std.specs.Prelude.{◌≡◌, ◌≤◌, ◌<◌, ◌^◌, ◌-◌, ℕ, false, List, IfOk, IfErr};
+ghost use Rattle.std.specs.Option.{option_map};
+ghost use Rattle.gr_io.specs.Pieces.{Rose};
+ghost use Rattle.gr_text.specs.Places.{known, limit_of};
+ghost use Rattle.gr_lrat.specs.Logs.{log_read};
+ghost use Rattle.gr_lrat.specs.Stages.{log_to_come};
+ghost use Rattle.gr_lrat.specs.Answers.{Answers, KeepsLimit, line_error_of};
+
+use crate::statements::{Spelt, read_statement};
+use gr_io::Source;
+use gr_logic::{Line, OutOfMemory};
+use gr_text::{ScanError, Scanner};
+use std::alloc::Global;
+use thiserror::Error;
+
+/// A line of a log and its number in the text, where blank lines and comments count.
+#[derive(Debug, Drop)]
+pub struct Numbered {
+    pub number: u64,
+    pub line: Line,
+}
+
+/// Why no further line was read.
+#[derive(Clone, Copy, Debug, Drop, Error, PartialEq, Eq)]
+pub enum LineError {
+    #[error("line {line}: this is no line of a proof log")]
+    BadLine { line: u64 },
+    #[error("line {line}: negative hints are not supported")]
+    RatHint { line: u64 },
+    #[error("line {line}: the log is too long")]
+    TooLong { line: u64 },
+    #[error("the source failed")]
+    ReadFault,
+    #[error("no memory is left")]
+    OutOfMemory,
+}
+
+fn line_error(failed: ScanError) -> LineError
+    ensures { result ≡ line_error_of failed }
+{
+    match failed {
+        ScanError::TooLong { line } => LineError::TooLong { line },
+        ScanError::ReadFault => LineError::ReadFault,
+        ScanError::OutOfMemory => LineError::OutOfMemory,
+    }
+}
+
+/// Reads a proof log line by line. After an error it may only be dropped.
+#[derive(Drop)]
+pub struct LineReader<'a, S: Source> {
+    scanner: Scanner<'a, S>,
+    alloc: Global,
+    ended: bool,
+}
+
+impl<'a, S: Source> LineReader<'a, S> {
+    /// A reader of what the source has left, of which it takes at most so many bytes.
+    pub fn new(
+        alloc: Global,
+        source: &'a mut S,
+        max_bytes: u64,
+    ) -> Result<LineReader<'a, S>, OutOfMemory>
+        requires { max_bytes < 2 ^ 64 - 1 }
+        ensures same { IfOk result (λ r. r.scanner.source.ghost_name ≡ source.entry.ghost_name) }
+        ensures source { IfOk result (λ r. r.scanner.source.now ≡ source.old) }
+        ensures told { IfOk result (λ r. (limit : ℕ) →
+            log_to_come limit r.ended r.scanner.held (S.left source.old)
+            ≡ option_map (log_read limit) (S.left source.old)) }
+        ensures limit { IfOk result (λ r. limit_of r.scanner.held ≡ max_bytes) }
+        ensures known { IfOk result (λ r. known r.scanner.held ≡ 0) }
+    {
+        match Scanner::new(alloc, source, max_bytes) {
+            Ok(scanner) => Ok(LineReader {
+                scanner,
+                alloc,
+                ended: false,
+            }),
+            Err(_) => Err(OutOfMemory),
+        }
+    }
+
+    /// The next line, or `None` at the end of the text.
+    pub fn next(&mut self) -> Result<Option<Numbered>, LineError>
+        ensures same { self.new.scanner.source.ghost_name ≡ self.old.scanner.source.ghost_name }
+        ensures answers { Answers result
+            self.old.ended self.old.scanner.held (S.left self.old.scanner.source.now)
+            self.new.ended self.new.scanner.held (S.left self.new.scanner.source.now) }
+        ensures keeps { KeepsLimit self.old.scanner.held self.new.scanner.held }
+        ensures fault { IfErr result (λ e. e ≡ LineError.ReadFault →
+            Rose (S.faults self.old.scanner.source.now) (S.faults self.new.scanner.source.now)) }
+        ensures grows { S.faults self.old.scanner.source.now ≤ S.faults self.new.scanner.source.now }
+    {
+        next_line(self.alloc, &mut self.scanner, &mut self.ended)
+    }
+}
+
+/// The next line that a scanner comes to, or `None` at the end of the text: `ended` tells that it
+/// was
+/// reached, and is false at first.
+pub fn next_line<S: Source>(
+    alloc: Global,
+    scanner: &mut Scanner<'_, S>,
+    ended: &mut bool,
+) -> Result<Option<Numbered>, LineError>
+    ensures same { scanner.new.source.ghost_name ≡ scanner.old.source.ghost_name }
+    ensures answers { Answers result
+        ended.old scanner.old.held (S.left scanner.old.source.now)
+        ended.new scanner.new.held (S.left scanner.new.source.now) }
+    ensures keeps { KeepsLimit scanner.old.held scanner.new.held }
+    ensures fault { IfErr result (λ e. e ≡ LineError.ReadFault →
+        Rose (S.faults scanner.old.source.now) (S.faults scanner.new.source.now)) }
+    ensures grows { S.faults scanner.old.source.now ≤ S.faults scanner.new.source.now }
+{
+    'lines: while !*ended {
+        let statement = match read_statement(alloc, scanner) {
+            Ok(statement) => statement,
+            Err(failed) => return Err(line_error(failed)),
+        };
+        let number = statement.end.line;
+        *ended = statement.end.last;
+        match statement.spelt {
+            Spelt::Nothing => {}
+            Spelt::Spelled(line) => return Ok(Some(Numbered { number, line })),
+            Spelt::Misspelt => return Err(LineError::BadLine { line: number }),
+            Spelt::HasNegativeHint => return Err(LineError::RatHint { line: number }),
+        }
+    }
+    Ok(None)
+}
