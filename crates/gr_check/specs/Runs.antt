@@ -1,0 +1,31 @@
+-- clauses as runs of one list of literals
+use Rattle.std.specs.Prelude.{ℕ, ◌+◌, ◌<◌, ◌≤◌, ◌≡◌, List, map, length, take, drop, Option, Some, None, nat_eq, option_map, slice_index_or}
+use Rattle.std.specs.Map.{lookup}
+use Rattle.std.specs.FinMap as finite
+use Rattle.gr_logic.specs.Literals.{Literal}
+use Rattle.gr_logic.specs.Log.{Clauses}
+use Rattle.gr_check.specs.declared.pool.Run.{Run}
+
+-- the literals of a run
+abbrev pub lits_of : List Literal → Run → List Literal
+lits_of lits run = take run.len (drop run.from lits)
+
+-- the clauses, by their ids, whose runs these are
+abbrev pub clauses_of : List Literal → List (ℕ × Run) → Clauses
+clauses_of lits runs = finite.from_entries (map (λ e. (e.0, lits_of lits e.1)) runs)
+
+-- each id's run ends within so many literals
+abbrev pub RunsWithin : ℕ → List (ℕ × Run) → Type 0
+RunsWithin count runs =
+    (id : ℕ) (run : Run) → lookup (nat_eq id) runs ≡ Some run → run.from + run.len ≤ count
+
+-- each place has the run of its id's clause, or nothing where no clause has the id
+pub record AreLocated (clauses : Clauses) (lits : List Literal) (ids : List ℕ)
+    (places : List (Option Run))
+    : Type 0 where
+  pub count : length places ≡ length ids
+  pub within : (k : ℕ) → k < length ids → (run : Run) → slice_index_or places k None ≡ Some run
+      → run.from + run.len ≤ length lits
+  pub found : (k : ℕ) → k < length ids
+      → finite.get clauses (slice_index_or ids k 0)
+      ≡ option_map (lits_of lits) (slice_index_or places k None)
