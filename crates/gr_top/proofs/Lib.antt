@@ -1,0 +1,11 @@
+pub mod WordLists
+pub mod Pieces
+pub mod BranchingReasons
+pub mod BranchingResolvents
+pub mod BranchingLogs
+pub mod BranchingStack
+pub mod Honest
+pub mod HonestRefutations
+pub mod Solved
+pub mod Answered
+pub mod Called

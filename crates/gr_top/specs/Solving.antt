@@ -1,0 +1,170 @@
+-- the solve theorem: what a call says of the formula's text, and what it leaves on its streams
+use Rattle.std.specs.Prelude.{◌≡◌, ℕ, Bool, List, [], ◌++◌, Option, Some, Err, ◌⊎◌, IfSome}
+use Rattle.gr_logic.specs.Formulas.{Cnf}
+use Rattle.gr_logic.specs.Truth.{IsUnsatisfiable}
+use Rattle.gr_logic.specs.Log.{Accepts}
+use Rattle.gr_logic.specs.declared.lines.Line.{Line}
+use Rattle.gr_io.specs.Pieces.{Gains, Rose}
+use Rattle.gr_dimacs.specs.Faults.{fault_of}
+use Rattle.gr_dimacs.specs.Reads.{IsFormulaOf, Reads}
+use Rattle.gr_dimacs.specs.declared.faults.GrammarFault.{GrammarFault}
+use Rattle.gr_dimacs.specs.declared.faults.ReadError.TheVariants as errors
+use Rattle.gr_dimacs.specs.declared.limits.TheConstants.{PROGRAM_LIMITS}
+use Rattle.gr_lrat.specs.Writing.{log_text}
+use Rattle.gr_top.specs.Sinks.{Sinks, sinks, OutRose, ProofRose, ProofFailed, IsUntouched, Tells, TellsPart, TellsRefutation, IsModel, CutAnswer}
+use Rattle.gr_top.specs.Texts.{satisfiable_line, unsatisfiable_line, satisfiable_text, fault_text, usage_text}
+use Rattle.gr_top.specs.declared.statuses.Status.{Status}
+use Rattle.gr_top.specs.declared.statuses.Status.TheVariants.{Satisfiable, Unsatisfiable, Usage, Grammar, ReadFault, SinkFault, OutOfMemory}
+use Rattle.gr_top.specs.declared.reports.Report.{Report}
+
+-- what the streams of a call show: the text that is left to read, where it is told, how often reading
+-- failed, and what stands on the sinks
+pub record Streams : Type 0 where
+  pub text : Option (List ℕ)
+  pub read_faults : ℕ
+  pub sinks : Sinks
+
+-- the streams that show this
+abbrev pub streams : Option (List ℕ) → ℕ → Option (List ℕ) → ℕ → Option (List ℕ) → ℕ → Streams
+streams text read_faults out out_faults proof proof_faults = record {
+  text = text;
+  read_faults = read_faults;
+  sinks = sinks out out_faults proof proof_faults;
+}
+
+-- reading failed
+abbrev pub ReadRose : Streams → Streams → Type 0
+ReadRose old new = Rose old.read_faults new.read_faults
+
+-- where the text is told, it spells the formula, with no fault and within the program's limits
+abbrev pub IsReadFrom : Option (List ℕ) → Cnf → Type 0
+IsReadFrom told f = IfSome told (λ text. IsFormulaOf PROGRAM_LIMITS text f)
+
+-- where the text is told, this is its first fault
+abbrev pub IsFaultIn : Option (List ℕ) → GrammarFault → Type 0
+IsFaultIn told g = IfSome told (λ text. fault_of PROGRAM_LIMITS text ≡ Some g)
+
+-- the report has neither a model nor a log
+pub record IsBare (r : Report) : Type 0 where
+  pub model : r.model ≡ []
+  pub log : r.log ≡ []
+
+-- a sink failed: the output; or the proof log alone, and then the formula is unsatisfiable
+abbrev pub AnswerFailed : Cnf → Sinks → Sinks → Type 0
+AnswerFailed f old new = OutRose old new ⊎ (ProofFailed old new × IsUnsatisfiable f.clauses)
+
+-- an answer on a formula: what its status says, and what is written
+abbrev pub AnswersBy : Status → Cnf → Sinks → Sinks → Report → Type 0
+AnswersBy Satisfiable f old new r =
+    IsModel f r.model × Tells (satisfiable_text r.model) old new × (r.log ≡ [])
+AnswersBy Unsatisfiable f old new r =
+    Accepts f r.log × TellsRefutation r.log old new × (r.model ≡ [])
+AnswersBy SinkFault f old new r = AnswerFailed f old new × CutAnswer f old new × IsBare r
+AnswersBy OutOfMemory f old new r = CutAnswer f old new × IsBare r
+AnswersBy Usage f old new r = ⊥
+AnswersBy (Grammar g) f old new r = ⊥
+AnswersBy ReadFault f old new r = ⊥
+
+-- the report answers the formula
+abbrev pub Answers : Cnf → Sinks → Sinks → Report → Type 0
+Answers f old new r = AnswersBy r.status f old new r
+
+-- the report answers some formula that the text spells
+abbrev pub AnswersText : Status → Option (List ℕ) → Sinks → Sinks → Report → Type 0
+AnswersText status told old new r = (f : Cnf) × IsReadFrom told f × AnswersBy status f old new r
+
+-- the line on the text's first fault was cut off
+abbrev pub CutFault : Option (List ℕ) → Sinks → Sinks → Type 0
+CutFault told old new = (g : GrammarFault) × IsFaultIn told g × TellsPart (fault_text g) old new
+
+-- what a call leaves that was cut off: nothing; a front part of the line on the text's fault; or what the
+-- answer on the text's formula leaves
+abbrev pub CutSolve : Option (List ℕ) → Sinks → Sinks → Type 0
+CutSolve told old new =
+    IsUntouched old new ⊎ (CutFault told old new ⊎ ((f : Cnf) × IsReadFrom told f × CutAnswer f old new))
+
+-- what each status says of the text, why it comes, and what is written then
+abbrev pub SolvesBy : Status → Streams → Streams → Report → Type 0
+SolvesBy Satisfiable old new r = AnswersText Satisfiable old.text old.sinks new.sinks r
+SolvesBy Unsatisfiable old new r = AnswersText Unsatisfiable old.text old.sinks new.sinks r
+SolvesBy (Grammar g) old new r = IsFaultIn old.text g × Tells (fault_text g) old.sinks new.sinks × IsBare r
+SolvesBy ReadFault old new r =
+    ReadRose old new × Reads PROGRAM_LIMITS (Err errors.ReadFault) old.text new.text
+    × IsUntouched old.sinks new.sinks × IsBare r
+SolvesBy SinkFault old new r =
+    AnswersText SinkFault old.text old.sinks new.sinks r
+    ⊎ (OutRose old.sinks new.sinks × CutFault old.text old.sinks new.sinks × IsBare r)
+SolvesBy OutOfMemory old new r = CutSolve old.text old.sinks new.sinks × IsBare r
+SolvesBy Usage old new r = ⊥
+
+-- the sink tells its text, and behind the old text begins the whole line
+pub record Shows (line : List ℕ) (old new : Option (List ℕ)) : Type 0 where
+  pub before : List ℕ
+  pub behind : List ℕ
+  pub was : old ≡ Some before
+  pub is : new ≡ Some (before ++ (line ++ behind))
+
+-- a verdict is written only where it is true, and UNSATISFIABLE only over a whole accepted log
+pub record NoFalseVerdict (told : Option (List ℕ)) (old new : Sinks) : Type 0 where
+  pub satisfiable : Shows satisfiable_line old.out new.out
+      → (f : Cnf) × IsReadFrom told f × (model : List Bool) × IsModel f model
+  pub unsatisfiable : Shows unsatisfiable_line old.out new.out
+      → (f : Cnf) × IsReadFrom told f × (lines : List Line) × Accepts f lines
+          × Gains (log_text lines) old.proof new.proof
+
+-- nothing failed in the call
+pub record NothingRose (old new : Streams) : Type 0 where
+  pub read : ReadRose old new → ⊥
+  pub out : OutRose old.sinks new.sinks → ⊥
+  pub proof : ProofRose old.sinks new.sinks → ⊥
+
+-- the status is a verdict, or want of memory
+abbrev pub IsDecision : Status → Type 0
+IsDecision Satisfiable = Unit {0}
+IsDecision Unsatisfiable = Unit {0}
+IsDecision OutOfMemory = Unit {0}
+IsDecision Usage = ⊥
+IsDecision (Grammar g) = ⊥
+IsDecision ReadFault = ⊥
+IsDecision SinkFault = ⊥
+
+-- the status is this fault of the text, or want of memory
+abbrev pub IsRefusal : GrammarFault → Status → Type 0
+IsRefusal g (Grammar found) = found ≡ g
+IsRefusal g OutOfMemory = Unit {0}
+IsRefusal g Satisfiable = ⊥
+IsRefusal g Unsatisfiable = ⊥
+IsRefusal g Usage = ⊥
+IsRefusal g ReadFault = ⊥
+IsRefusal g SinkFault = ⊥
+
+-- where nothing fails, a text that spells a formula is decided, and another one is refused by its first fault
+pub record IsComplete (told : Option (List ℕ)) (old new : Streams) (status : Status) : Type 0 where
+  pub decided : (text : List ℕ) (f : Cnf) → told ≡ Some text → IsFormulaOf PROGRAM_LIMITS text f
+      → NothingRose old new → IsDecision status
+  pub refused : (text : List ℕ) (g : GrammarFault) → told ≡ Some text → fault_of PROGRAM_LIMITS text ≡ Some g
+      → NothingRose old new → IsRefusal g status
+
+-- the solve theorem: each status has its cause and its text, no verdict is false or stands over a torn log,
+-- and there is no other answer where nothing fails
+pub record Solves (old new : Streams) (r : Report) : Type 0 where
+  pub answer : SolvesBy r.status old new r
+  pub honest : NoFalseVerdict old.text old.sinks new.sinks
+  pub complete : IsComplete old.text old new r.status
+
+-- what each status says where the words are no lawful command line
+abbrev pub RefusesBy : Status → Sinks → Sinks → Type 0
+RefusesBy Usage old new = Tells usage_text old new
+RefusesBy SinkFault old new = OutRose old new × TellsPart usage_text old new
+RefusesBy OutOfMemory old new = TellsPart usage_text old new
+RefusesBy Satisfiable old new = ⊥
+RefusesBy Unsatisfiable old new = ⊥
+RefusesBy (Grammar g) old new = ⊥
+RefusesBy ReadFault old new = ⊥
+
+-- the words are refused: the usage text is written, and nothing is read
+pub record Refuses (old new : Streams) (r : Report) : Type 0 where
+  pub answer : RefusesBy r.status old.sinks new.sinks
+  pub bare : IsBare r
+  pub text : new.text ≡ old.text
+  pub read_faults : new.read_faults ≡ old.read_faults

@@ -1,0 +1,31 @@
+// What a call hands back.
+ghost use Rattle.std.specs.Prelude.{◌≡◌, []};
+
+use crate::statuses::Status;
+use gr_logic::{Assignment, LogLines};
+use std::alloc::Global;
+
+/// How a call ended, and what it found. Beside `Satisfiable` there is no model, and beside `Unsatisfiable` no log.
+#[derive(Debug, Drop)]
+pub struct Report {
+    pub status: Status,
+    /// A value for each variable, which satisfy every clause.
+    pub model: Assignment,
+    /// The lines that were written to the proof log.
+    pub log: LogLines,
+}
+
+impl Report {
+    /// A report of no model and no log. Takes no memory.
+    pub(crate) fn bare(alloc: Global, status: Status) -> Report
+        ensures status { result.status ≡ status }
+        ensures model { result.model ≡ [] }
+        ensures log { result.log ≡ [] }
+    {
+        Report {
+            status,
+            model: Assignment::empty(alloc),
+            log: LogLines::new(alloc),
+        }
+    }
+}

@@ -1,0 +1,135 @@
+// The call that the program makes.
+ghost use Rattle.std.specs.Prelude.{◌≡◌, All, IfErr, OnOk, OnErr};
+ghost use Rattle.gr_logic.specs.Log.{HasIds};
+ghost use Rattle.gr_top.specs.Commands.{IsLawful, IsUnlawful};
+ghost use Rattle.gr_top.specs.Sinks.{sinks, SinkFailed, TellsRefutation, CutRefutation};
+ghost use Rattle.gr_top.specs.Solving.{streams, IsBare, Answers, Solves, Refuses};
+ghost use Rattle.gr_top.specs.Statuses.{cut_status, end_status};
+
+use crate::branching::{Decision, decide};
+use crate::reports::Report;
+use crate::statuses::Status;
+use crate::texts::{write_fault, write_log, write_model, write_unsatisfiable, write_usage};
+use crate::words::Words;
+use gr_dimacs::{PROGRAM_LIMITS, ReadError, read};
+use gr_io::{Gate, Sink, SinkError, Source};
+use gr_logic::{Assignment, Formula, Line, LogLines};
+use std::alloc::Global;
+
+/// Runs the program over its words and its streams. For the words `solve CNF LOG` it reads a formula in DIMACS CNF from
+/// `cnf`, decides it, writes the lines of a refutation to `proof` in text LRAT and then the verdict to `out`, for a
+/// satisfiable formula with an assignment. `log` is not read, and `gate` is not passed. It waits for nothing.
+pub fn run<A: Source, B: Source, C: Sink, D: Sink, G: Gate>(
+    alloc: Global,
+    words: &Words,
+    cnf: &mut A,
+    log: &mut B,
+    out: &mut C,
+    proof: &mut D,
+    gate: &G,
+) -> Report
+    ensures lawful { IsLawful words.now → Solves
+        (streams (A.left cnf.old) (A.faults cnf.old)
+            (C.written out.old) (C.faults out.old) (D.written proof.old) (D.faults proof.old))
+        (streams (A.left cnf.new) (A.faults cnf.new)
+            (C.written out.new) (C.faults out.new) (D.written proof.new) (D.faults proof.new))
+        result }
+    ensures unlawful { IsUnlawful words.now → Refuses
+        (streams (A.left cnf.old) (A.faults cnf.old)
+            (C.written out.old) (C.faults out.old) (D.written proof.old) (D.faults proof.old))
+        (streams (A.left cnf.new) (A.faults cnf.new)
+            (C.written out.new) (C.faults out.new) (D.written proof.new) (D.faults proof.new))
+        result }
+    ensures log { log.new ≡ log.old }
+{
+    match words.solve_files() {
+        Some(_) => solve(alloc, cnf, out, proof),
+        None => ended(alloc, write_usage(out), Status::Usage),
+    }
+}
+
+/// Reads the formula and answers it, or tells why there is none.
+fn solve<A: Source, C: Sink, D: Sink>(alloc: Global, cnf: &mut A, out: &mut C, proof: &mut D) -> Report
+    ensures { Solves
+        (streams (A.left cnf.old) (A.faults cnf.old)
+            (C.written out.old) (C.faults out.old) (D.written proof.old) (D.faults proof.old))
+        (streams (A.left cnf.new) (A.faults cnf.new)
+            (C.written out.new) (C.faults out.new) (D.written proof.new) (D.faults proof.new))
+        result }
+{
+    match read(alloc, cnf, &PROGRAM_LIMITS) {
+        Ok(formula) => answer(alloc, &formula, out, proof),
+        Err(ReadError::Grammar(fault)) => ended(alloc, write_fault(fault, out), Status::Grammar(fault)),
+        Err(ReadError::ReadFault) => Report::bare(alloc, Status::ReadFault),
+        Err(ReadError::OutOfMemory) => Report::bare(alloc, Status::OutOfMemory),
+    }
+}
+
+/// Decides the formula and tells the verdict.
+fn answer<C: Sink, D: Sink>(alloc: Global, formula: &Formula, out: &mut C, proof: &mut D) -> Report
+    ensures { Answers formula.now
+        (sinks (C.written out.old) (C.faults out.old) (D.written proof.old) (D.faults proof.old))
+        (sinks (C.written out.new) (C.faults out.new) (D.written proof.new) (D.faults proof.new))
+        result }
+{
+    match decide(alloc, formula) {
+        Ok(Decision::Satisfiable(model)) => match write_model(&model, out) {
+            Ok(()) => Report {
+                status: Status::Satisfiable,
+                model,
+                log: LogLines::new(alloc),
+            },
+            Err(failed) => Report::bare(alloc, cut_status(failed)),
+        },
+        Ok(Decision::Unsatisfiable(log)) => match write_refutation(log.all(), out, proof) {
+            Ok(()) => Report {
+                status: Status::Unsatisfiable,
+                model: Assignment::empty(alloc),
+                log,
+            },
+            Err(failed) => Report::bare(alloc, cut_status(failed)),
+        },
+        Err(_) => Report::bare(alloc, Status::OutOfMemory),
+    }
+}
+
+/// Writes a proof log, and then the verdict on it.
+fn write_refutation<C: Sink, D: Sink>(lines: &[Line], out: &mut C, proof: &mut D) -> Result<(), SinkError>
+    requires { All HasIds lines.now }
+    ensures ok { OnOk result (TellsRefutation lines.now
+        (sinks (C.written out.old) (C.faults out.old) (D.written proof.old) (D.faults proof.old))
+        (sinks (C.written out.new) (C.faults out.new) (D.written proof.new) (D.faults proof.new))) }
+    ensures err { OnErr result (CutRefutation lines.now
+        (sinks (C.written out.old) (C.faults out.old) (D.written proof.old) (D.faults proof.old))
+        (sinks (C.written out.new) (C.faults out.new) (D.written proof.new) (D.faults proof.new))) }
+    ensures fault { IfErr result (λ e. e ≡ SinkError.Fault → SinkFailed
+        (sinks (C.written out.old) (C.faults out.old) (D.written proof.old) (D.faults proof.old))
+        (sinks (C.written out.new) (C.faults out.new) (D.written proof.new) (D.faults proof.new))) }
+{
+    // The log is whole before the verdict begins: no verdict stands over a torn log.
+    match write_log(lines, proof) {
+        Ok(()) => write_unsatisfiable(out),
+        Err(failed) => Err(failed),
+    }
+}
+
+/// The report of a call that was to end so, once its text was written.
+fn ended(alloc: Global, done: Result<(), SinkError>, due: Status) -> Report
+    ensures status { result.status ≡ end_status done due }
+    ensures bare { IsBare result }
+{
+    match done {
+        Ok(()) => Report::bare(alloc, due),
+        Err(failed) => Report::bare(alloc, cut_status(failed)),
+    }
+}
+
+/// The status where a sink did not take a text.
+fn cut_status(failed: SinkError) -> Status
+    ensures { result ≡ cut_status failed }
+{
+    match failed {
+        SinkError::Fault => Status::SinkFault,
+        SinkError::OutOfMemory => Status::OutOfMemory,
+    }
+}
