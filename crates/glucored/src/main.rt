@@ -22,7 +22,15 @@ fn call(rt: HostRuntime) -> Result<u8, OutOfMemory> {
     let mut log = FileSource::new(rt, log_name);
     let mut out = OutSink::new(rt);
     let mut proof = FileSink::new(rt, names.log);
-    let report = run(rt.alloc(), &words, &mut cnf, &mut log, &mut out, &mut proof, &Open);
+    let report = run(
+        rt.alloc(),
+        &words,
+        &mut cnf,
+        &mut log,
+        &mut out,
+        &mut proof,
+        &Open,
+    );
     Ok(code(&report.status))
 }
 

@@ -85,8 +85,8 @@ unrefuted : (a : List Bool) (lines : List Line) (n : ℕ) (s : LogState)
 unrefuted a [] n s meets e = refl
 unrefuted a (x ∷ xs) n s meets e =
     elim (line_cause s x)
-        as (λ o. line_cause s x ≡ o → first_cause n o (refusal_from (n + 1) (after_line s x) xs) ≡ None
-          → (state_after (after_line s x) xs).refuted ≡ s.refuted) [
+    as (λ o. line_cause s x ≡ o → first_cause n o (refusal_from (n + 1) (after_line s x) xs) ≡ None
+    → (state_after (after_line s x) xs).refuted ≡ s.refuted) [
       | None ↦ λ is e. let next = line-MeetsLive a s x is meets in unrefuted a xs (n + 1) (after_line s x) next.0 e ∙ next.1
       | Some why ↦ λ _ e. absurd (cc)
     ] refl e
@@ -97,8 +97,8 @@ additions-met : (a : List Bool) (lines : List Line) (n : ℕ) (s : LogState)
 additions-met a [] n s meets e = All-nil (Meets a)
 additions-met a (x ∷ xs) n s meets e =
     elim (line_cause s x)
-        as (λ o. line_cause s x ≡ o → first_cause n o (refusal_from (n + 1) (after_line s x) xs) ≡ None
-          → All (Meets a) (clauses_added (x ∷ xs))) [
+    as (λ o. line_cause s x ≡ o → first_cause n o (refusal_from (n + 1) (after_line s x) xs) ≡ None
+    → All (Meets a) (clauses_added (x ∷ xs))) [
       | None ↦ λ is e. with-line x is (additions-met a xs (n + 1) (after_line s x) (line-MeetsLive a s x is meets).0 e)
       | Some why ↦ λ _ e. absurd (cc)
     ] refl e

@@ -63,13 +63,13 @@ open-true : (a : List Bool) (set : LiteralSet) → AllTrue a set → (c : List L
 open-true a set all [] e = e
 open-true a set all (l ∷ ls) e =
     elim (false_in set l)
-        as (λ b. false_in set l ≡ b
-          → list_any (literal_true a) (if not b then l ∷ filter (λ x. not (false_in set x)) ls else filter (λ x. not (false_in set x)) ls) ≡ true) [
+    as (λ b. false_in set l ≡ b
+    → list_any (literal_true a) (if not b then l ∷ filter (λ x. not (false_in set x)) ls else filter (λ x. not (false_in set x)) ls) ≡ true) [
       | true ↦ λ no. open-true a set all ls (one-true (literal_true a l) (list_any (literal_true a) ls) e (false_in-not a set all l no))
       | false ↦ λ _.
           elim (literal_true a l)
-              as (λ t. (t || list_any (literal_true a) ls) ≡ true
-                → (t || list_any (literal_true a) (filter (λ x. not (false_in set x)) ls)) ≡ true) [
+          as (λ t. (t || list_any (literal_true a) ls) ≡ true
+          → (t || list_any (literal_true a) (filter (λ x. not (false_in set x)) ls)) ≡ true) [
             | true ↦ λ _. refl
             | false ↦ λ rest. open-true a set all ls rest
           ] e
@@ -98,8 +98,8 @@ at_open : (a : List Bool) (id : ℕ) (set : LiteralSet) → AllTrue a set → (g
 at_open a id set all go sound [] one e = cc
 at_open a id set all go sound (l ∷ ls) one e =
     elim (list_all (same_literal l) ls)
-        as (λ b. list_all (same_literal l) ls ≡ b
-          → after_reading id set go (if b then Forces l else Undecided) ≡ Accepted → ⊥) [
+    as (λ b. list_all (same_literal l) ls ≡ b
+    → after_reading id set go (if b then Forces l else Undecided) ≡ Accepted → ⊥) [
       | true ↦ λ same e. sound (with_literal set l) (with_literal-AllTrue a set l all (forced-true a l ls same one)) e
       | false ↦ λ _ e. cc
     ] refl e
@@ -118,7 +118,7 @@ negated-true : (a : List Bool) (c : List Literal) → clause_true a c ≡ false 
 negated-true a [] unmet q e = absurd (cc)
 negated-true a (l ∷ ls) unmet q e =
     elim (same_literal q (negation l))
-        as (λ b. same_literal q (negation l) ≡ b → (b || negated ls q) ≡ true → literal_true a q ≡ true) [
+    as (λ b. same_literal q (negation l) ≡ b → (b || negated ls q) ≡ true → literal_true a q ≡ true) [
       | true ↦ λ same _. ap (literal_true a) (same_literal-is q (negation l) same) ∙ literal_true-negation a l ∙ ap not (none-first (literal_true a l) _ unmet)
       | false ↦ λ _ rest. negated-true a ls (none-rest (literal_true a l) _ unmet) q rest
     ] refl e

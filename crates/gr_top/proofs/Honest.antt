@@ -24,7 +24,7 @@ shown-gains : (line text : List ℕ) (old new : Option (List ℕ)) (shows : Show
     → Gains text old new → line ++ shows.behind ≡ text
 shown-gains line text old new shows gains =
     same-behind shows.before (line ++ shows.behind) text
-        (some-same (sym shows.is ∙ gains ∙ ap (option_map (λ xs. xs ++ text)) shows.was))
+    (some-same (sym shows.is ∙ gains ∙ ap (option_map (λ xs. xs ++ text)) shows.was))
   where
     content : Option (List ℕ) → List ℕ
     content None = []
@@ -39,8 +39,8 @@ pub shown-part : (line due : List ℕ) (old new : Option (List ℕ)) → Shows l
 shown-part line due old new shows part = (
   shows.behind ++ part.left_out,
   sym (append_assoc line shows.behind part.left_out)
-  ∙ ap (λ xs. xs ++ part.left_out) (shown-gains line part.gained old new shows part.sink)
-  ∙ part.whole,
+      ∙ ap (λ xs. xs ++ part.left_out) (shown-gains line part.gained old new shows part.sink)
+      ∙ part.whole,
 )
 
 -- two texts that differ at a place are not one
@@ -95,5 +95,5 @@ model-honest told f old new model read is part = record {
   unsatisfiable = λ shows.
       let shown = shown-part unsatisfiable_line (satisfiable_text model) old.out new.out shows part in
       absurd (differ-at 2 (unsatisfiable_line ++ shown.0) (satisfiable_text model) 85 83 refl refl
-          (λ same. omega arith) shown.1);
+      (λ same. omega arith) shown.1);
 }

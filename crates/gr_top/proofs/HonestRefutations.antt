@@ -19,7 +19,7 @@ refutation-honest told f old new lines read accepted gains part = record {
   satisfiable = λ shows.
       let shown = shown-part satisfiable_line unsatisfiable_line old.out new.out shows part in
       absurd (differ-at 2 (satisfiable_line ++ shown.0) unsatisfiable_line 83 85 refl refl
-          (λ same. omega arith) shown.1);
+      (λ same. omega arith) shown.1);
   unsatisfiable = λ shows. (f, read, lines, accepted, gains);
 }
 

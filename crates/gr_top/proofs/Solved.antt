@@ -27,16 +27,16 @@ honest Satisfiable old new r says =
     model-honest old.text says.0 old.sinks new.sinks r.model says.1 says.2.0 (part_all _ _ _ says.2.1.out)
 honest Unsatisfiable old new r says =
     refutation-honest old.text says.0 old.sinks new.sinks r.log says.1 says.2.0 says.2.1.proof
-        (part_all _ _ _ says.2.1.out)
+    (part_all _ _ _ says.2.1.out)
 honest (Grammar g) old new r says = comment-honest old.text old.sinks new.sinks _ (part_all _ _ _ says.1.out)
 honest ReadFault old new r says = same-honest old.text old.sinks new.sinks says.2.out
 honest SinkFault old new r (inl says) = cut-answer-honest old.text says.0 old.sinks new.sinks says.1 says.2.1
 honest SinkFault old new r (inr says) = cut-fault-honest old.text old.sinks new.sinks says.1
 honest OutOfMemory old new r says = elim says.0 [
-    | inl same ↦ same-honest old.text old.sinks new.sinks same.out
-    | inr (inl cut) ↦ cut-fault-honest old.text old.sinks new.sinks cut
-    | inr (inr cut) ↦ cut-answer-honest old.text cut.0 old.sinks new.sinks cut.1 cut.2
-  ]
+  | inl same ↦ same-honest old.text old.sinks new.sinks same.out
+  | inr (inl cut) ↦ cut-fault-honest old.text old.sinks new.sinks cut
+  | inr (inr cut) ↦ cut-answer-honest old.text cut.0 old.sinks new.sinks cut.1 cut.2
+]
 honest Usage old new r says = absurd says
 
 -- where the output or the proof log failed, something failed
@@ -69,7 +69,7 @@ no-fault : (told : Option (List ℕ)) (f : Cnf) (text : List ℕ) (g : GrammarFa
     → fault_of PROGRAM_LIMITS text ≡ Some g → ⊥
 no-fault told f text g is read fault =
     let formula : IsFormulaOf PROGRAM_LIMITS text f =
-      subst (λ o. IfSome o (λ text. IsFormulaOf PROGRAM_LIMITS text f)) is read in
+    subst (λ o. IfSome o (λ text. IsFormulaOf PROGRAM_LIMITS text f)) is read in
     let none = formula.faultless in cc
 
 -- a told text with a fault is refused by it, where nothing failed

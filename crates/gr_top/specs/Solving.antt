@@ -110,7 +110,7 @@ pub record NoFalseVerdict (told : Option (List ℕ)) (old new : Sinks) : Type 0 
       → (f : Cnf) × IsReadFrom told f × (model : List Bool) × IsModel f model
   pub unsatisfiable : Shows unsatisfiable_line old.out new.out
       → (f : Cnf) × IsReadFrom told f × (lines : List Line) × Accepts f lines
-          × Gains (log_text lines) old.proof new.proof
+      × Gains (log_text lines) old.proof new.proof
 
 -- nothing failed in the call
 pub record NothingRose (old new : Streams) : Type 0 where

@@ -30,15 +30,15 @@ pub fn run<A: Source, B: Source, C: Sink, D: Sink, G: Gate>(
 ) -> Report
     ensures lawful { IsLawful words.now → Solves
         (streams (A.left cnf.old) (A.faults cnf.old)
-            (C.written out.old) (C.faults out.old) (D.written proof.old) (D.faults proof.old))
+        (C.written out.old) (C.faults out.old) (D.written proof.old) (D.faults proof.old))
         (streams (A.left cnf.new) (A.faults cnf.new)
-            (C.written out.new) (C.faults out.new) (D.written proof.new) (D.faults proof.new))
+        (C.written out.new) (C.faults out.new) (D.written proof.new) (D.faults proof.new))
         result }
     ensures unlawful { IsUnlawful words.now → Refuses
         (streams (A.left cnf.old) (A.faults cnf.old)
-            (C.written out.old) (C.faults out.old) (D.written proof.old) (D.faults proof.old))
+        (C.written out.old) (C.faults out.old) (D.written proof.old) (D.faults proof.old))
         (streams (A.left cnf.new) (A.faults cnf.new)
-            (C.written out.new) (C.faults out.new) (D.written proof.new) (D.faults proof.new))
+        (C.written out.new) (C.faults out.new) (D.written proof.new) (D.faults proof.new))
         result }
     ensures log { log.new ≡ log.old }
 {
@@ -49,17 +49,26 @@ pub fn run<A: Source, B: Source, C: Sink, D: Sink, G: Gate>(
 }
 
 /// Reads the formula and answers it, or tells why there is none.
-fn solve<A: Source, C: Sink, D: Sink>(alloc: Global, cnf: &mut A, out: &mut C, proof: &mut D) -> Report
+fn solve<A: Source, C: Sink, D: Sink>(
+    alloc: Global,
+    cnf: &mut A,
+    out: &mut C,
+    proof: &mut D,
+) -> Report
     ensures { Solves
         (streams (A.left cnf.old) (A.faults cnf.old)
-            (C.written out.old) (C.faults out.old) (D.written proof.old) (D.faults proof.old))
+        (C.written out.old) (C.faults out.old) (D.written proof.old) (D.faults proof.old))
         (streams (A.left cnf.new) (A.faults cnf.new)
-            (C.written out.new) (C.faults out.new) (D.written proof.new) (D.faults proof.new))
+        (C.written out.new) (C.faults out.new) (D.written proof.new) (D.faults proof.new))
         result }
 {
     match read(alloc, cnf, &PROGRAM_LIMITS) {
         Ok(formula) => answer(alloc, &formula, out, proof),
-        Err(ReadError::Grammar(fault)) => ended(alloc, write_fault(fault, out), Status::Grammar(fault)),
+        Err(ReadError::Grammar(fault)) => ended(
+            alloc,
+            write_fault(fault, out),
+            Status::Grammar(fault),
+        ),
         Err(ReadError::ReadFault) => Report::bare(alloc, Status::ReadFault),
         Err(ReadError::OutOfMemory) => Report::bare(alloc, Status::OutOfMemory),
     }
@@ -94,7 +103,11 @@ fn answer<C: Sink, D: Sink>(alloc: Global, formula: &Formula, out: &mut C, proof
 }
 
 /// Writes a proof log, and then the verdict on it.
-fn write_refutation<C: Sink, D: Sink>(lines: &[Line], out: &mut C, proof: &mut D) -> Result<(), SinkError>
+fn write_refutation<C: Sink, D: Sink>(
+    lines: &[Line],
+    out: &mut C,
+    proof: &mut D,
+) -> Result<(), SinkError>
     requires { All HasIds lines.now }
     ensures ok { OnOk result (TellsRefutation lines.now
         (sinks (C.written out.old) (C.faults out.old) (D.written proof.old) (D.faults proof.old))

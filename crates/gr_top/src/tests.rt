@@ -33,22 +33,54 @@ fn status<A: Source, C: Sink, D: Sink>(
 fn writes_what_each_text_deserves(rt: HostRuntime) -> Result<(), Fail> {
     let alloc = rt.alloc();
     let words = words_of(alloc, &["solve", "f.cnf", "f.lrat"])?;
-    let units_20 = "p cnf 20 20 1 0 2 0 3 0 4 0 5 0 6 0 7 0 8 0 9 0 10 0 11 0 12 0 13 0 14 0 15 0 16 0 17 0 18 0 19 0 20 0";
-    let units_21 = "p cnf 21 21 1 0 2 0 3 0 4 0 5 0 6 0 7 0 8 0 9 0 10 0 11 0 12 0 13 0 14 0 15 0 16 0 17 0 18 0 19 0 20 0 21 0";
+    let units_20 =
+        "p cnf 20 20 1 0 2 0 3 0 4 0 5 0 6 0 7 0 8 0 9 0 10 0 11 0 12 0 13 0 14 0 15 0 16 0 17 0 18 0 19 0 20 0";
+    let units_21 =
+        "p cnf 21 21 1 0 2 0 3 0 4 0 5 0 6 0 7 0 8 0 9 0 10 0 11 0 12 0 13 0 14 0 15 0 16 0 17 0 18 0 19 0 20 0 21 0";
     let satlib = "c made by a generator\nc\np cnf 3  3 \n1 0\n-1 -2 0\n 2 3 0\n%\n0\n\n";
     let crlf = "p cnf 3 3\r\n1 0 -1\r\n-2 0\t2\r\nc note\r\n3 0\r\n";
     let four = "p cnf 2 4\n1 2 0\n1 -2 0\n-1 2 0\n-1 -2 0\n";
     let cases = [
         ("p cnf 0 0\n", 10, "s SATISFIABLE\nv 0\n", ""),
         ("p cnf 0 1\n0\n", 20, "s UNSATISFIABLE\n", "2 0 1 0\n"),
-        ("p cnf 3 3\n1 0\n-1 -2 0\n2 3 0\n", 10, "s SATISFIABLE\nv 1 -2 3 0\n", ""),
+        (
+            "p cnf 3 3\n1 0\n-1 -2 0\n2 3 0\n",
+            10,
+            "s SATISFIABLE\nv 1 -2 3 0\n",
+            "",
+        ),
         (satlib, 10, "s SATISFIABLE\nv 1 -2 3 0\n", ""),
         (crlf, 10, "s SATISFIABLE\nv 1 -2 3 0\n", ""),
-        ("p cnf 2 3\n1 1 0\n2 -2 0\n-1 2 0\n", 10, "s SATISFIABLE\nv 1 2 0\n", ""),
-        (four, 20, "s UNSATISFIABLE\n", "5 1 0 2 1 0\n6 -1 0 4 3 0\n7 0 6 5 0\n"),
-        ("p cnf 1 2\n1 0\n-1 -0\n", 20, "s UNSATISFIABLE\n", "3 0 2 1 0\n"),
-        (units_20, 10, "s SATISFIABLE\nv 1 2 3 4 5 6 7 8 9 10 11 12 13 14 15 16 17 18 19 20 0\n", ""),
-        (units_21, 10, "s SATISFIABLE\nv 1 2 3 4 5 6 7 8 9 10 11 12 13 14 15 16 17 18 19 20\nv 21 0\n", ""),
+        (
+            "p cnf 2 3\n1 1 0\n2 -2 0\n-1 2 0\n",
+            10,
+            "s SATISFIABLE\nv 1 2 0\n",
+            "",
+        ),
+        (
+            four,
+            20,
+            "s UNSATISFIABLE\n",
+            "5 1 0 2 1 0\n6 -1 0 4 3 0\n7 0 6 5 0\n",
+        ),
+        (
+            "p cnf 1 2\n1 0\n-1 -0\n",
+            20,
+            "s UNSATISFIABLE\n",
+            "3 0 2 1 0\n",
+        ),
+        (
+            units_20,
+            10,
+            "s SATISFIABLE\nv 1 2 3 4 5 6 7 8 9 10 11 12 13 14 15 16 17 18 19 20 0\n",
+            "",
+        ),
+        (
+            units_21,
+            10,
+            "s SATISFIABLE\nv 1 2 3 4 5 6 7 8 9 10 11 12 13 14 15 16 17 18 19 20\nv 21 0\n",
+            "",
+        ),
         ("", 3, "c fault: line 1: NoHeader\n", ""),
         ("p dnf 1 1\n", 3, "c fault: line 1: BadHeader\n", ""),
         ("p\ncnf 1 1\n1 0\n", 3, "c fault: line 3: BadHeader\n", ""),
@@ -57,12 +89,23 @@ fn writes_what_each_text_deserves(rt: HostRuntime) -> Result<(), Fail> {
         ("p cnf 1 1\n2 0\n", 3, "c fault: line 2: VarAbove\n", ""),
         ("p cnf 2 1\n1 2", 3, "c fault: line 2: Unended\n", ""),
         ("p cnf 1 2\n1 0\n", 3, "c fault: line 3: TooFew\n", ""),
-        ("p cnf 1 1\n1 0\n-1 0\n", 3, "c fault: line 3: TooMany\n", ""),
+        (
+            "p cnf 1 1\n1 0\n-1 0\n",
+            3,
+            "c fault: line 3: TooMany\n",
+            "",
+        ),
     ];
     for (text, want, on_out, on_proof) in cases {
         let mut out = TextSink::new(alloc);
         let mut proof = TextSink::new(alloc);
-        let ended = status(alloc, &words, &mut source_of(alloc, text)?, &mut out, &mut proof);
+        let ended = status(
+            alloc,
+            &words,
+            &mut source_of(alloc, text)?,
+            &mut out,
+            &mut proof,
+        );
         assert_eq!(rt; ended, want, "on {text:?}");
         assert_eq!(rt; out.text(), on_out.as_bytes(), "on {text:?}");
         assert_eq!(rt; proof.text(), on_proof.as_bytes(), "on {text:?}");
@@ -86,9 +129,19 @@ fn refuses_other_words(rt: HostRuntime) -> Result<(), Fail> {
         let words = words_of(alloc, texts)?;
         let mut out = TextSink::new(alloc);
         let mut proof = TextSink::new(alloc);
-        let ended = status(alloc, &words, &mut source_of(alloc, "p cnf 0 0\n")?, &mut out, &mut proof);
+        let ended = status(
+            alloc,
+            &words,
+            &mut source_of(alloc, "p cnf 0 0\n")?,
+            &mut out,
+            &mut proof,
+        );
         assert_eq!(rt; ended, 2, "for {texts:?}");
-        assert_eq!(rt; out.text(), b"c usage: glucored solve CNF LOG\n".as_slice(), "for {texts:?}");
+        assert_eq!(rt;
+            out.text(),
+            b"c usage: glucored solve CNF LOG\n".as_slice(),
+            "for {texts:?}"
+        );
         let names = files(alloc, &words)?;
         assert_eq!(rt; names.cnf.as_str(), "", "for {texts:?}");
     }
@@ -122,8 +175,16 @@ fn leaves_no_verdict_where_a_stream_fails(rt: HostRuntime) -> Result<(), Fail> {
         let mut proof = MemSink::new(alloc, Vec::from_slice(alloc, proofs)?, 0);
         let ended = status(alloc, &words, &mut cnf, &mut out, &mut proof);
         assert_eq!(rt; ended, want, "with {reads:?} {outs:?} {proofs:?}");
-        assert_eq!(rt; out.text(), b"".as_slice(), "with {reads:?} {outs:?} {proofs:?}");
-        assert_eq!(rt; proof.text(), on_proof.as_bytes(), "with {reads:?} {outs:?} {proofs:?}");
+        assert_eq!(rt;
+            out.text(),
+            b"".as_slice(),
+            "with {reads:?} {outs:?} {proofs:?}"
+        );
+        assert_eq!(rt;
+            proof.text(),
+            on_proof.as_bytes(),
+            "with {reads:?} {outs:?} {proofs:?}"
+        );
     }
     Ok(())
 }

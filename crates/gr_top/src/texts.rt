@@ -4,8 +4,18 @@ ghost use Rattle.gr_io.specs.Pieces.{Gains, GainsPart, Rose};
 ghost use Rattle.gr_logic.specs.Log.{HasIds};
 ghost use Rattle.gr_lrat.specs.Writing.{log_text};
 ghost use Rattle.gr_text.specs.Printing.{Prints};
-ghost use Rattle.gr_top.specs.Texts.{gap, next_place, literal_text, literals_text, true_literals, satisfiable_text,
-    unsatisfiable_line, kind_line, fault_text, usage_text};
+ghost use Rattle.gr_top.specs.Texts.{
+  gap,
+  next_place,
+  literal_text,
+  literals_text,
+  true_literals,
+  satisfiable_text,
+  unsatisfiable_line,
+  kind_line,
+  fault_text,
+  usage_text,
+};
 
 use gr_dimacs::{FaultKind, GrammarFault};
 use gr_io::{Sink, SinkError};
@@ -146,7 +156,11 @@ fn print_literals<K: Sink>(values: &[bool], printer: &mut Printer<'_, K>) -> Res
 fn gap(place: u32) -> &'static str
     ensures { result.now ≡ gap place }
 {
-    if place == LITERALS_PER_LINE { "\nv " } else { " " }
+    if place == LITERALS_PER_LINE {
+        "\nv "
+    } else {
+        " "
+    }
 }
 
 /// How many literals the present line has after one more.
@@ -155,11 +169,19 @@ fn next_place(place: u32) -> u32
     ensures next { result ≡ next_place place }
     ensures within { result ≤ LITERALS_PER_LINE }
 {
-    if place == LITERALS_PER_LINE { 1 } else { place + 1 }
+    if place == LITERALS_PER_LINE {
+        1
+    } else {
+        place + 1
+    }
 }
 
 /// Prints a literal, where the present line has so many.
-fn print_literal<K: Sink>(lit: Lit, place: u32, printer: &mut Printer<'_, K>) -> Result<(), SinkError>
+fn print_literal<K: Sink>(
+    lit: Lit,
+    place: u32,
+    printer: &mut Printer<'_, K>,
+) -> Result<(), SinkError>
     ensures same { printer.new.sink.ghost_name ≡ printer.old.sink.ghost_name }
     ensures ok { OnOk result (Prints (literal_text place lit)
         (K.written printer.old.sink.now) printer.old.pending

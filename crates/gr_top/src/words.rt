@@ -49,7 +49,10 @@ impl Words {
     {
         match self.words.as_slice() {
             [command, cnf, log] => {
-                if command.as_str() == "solve" && is_file_name(cnf.as_str()) && is_file_name(log.as_str()) {
+                if command.as_str() == "solve"
+                    && is_file_name(cnf.as_str())
+                    && is_file_name(log.as_str())
+                {
                     return Some((cnf.as_str(), log.as_str()));
                 }
                 None

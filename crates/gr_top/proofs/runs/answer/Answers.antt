@@ -10,7 +10,7 @@ returns-in-Err-write_model g c =
     cut-answers c.in-Err-write_model.failed c.args.formula.now _ _ c.bare.result
     (bare.status ∙ c.cut_status.ensures) (record { model = bare.model; log = bare.log })
     (InModel c.in-Ok-Satisfiable.model (record { whole = model.0; meets = model.1 })
-        (record { out = c.in-Err-write_model.ensures.err; proof = refl }))
+    (record { out = c.in-Err-write_model.ensures.err; proof = refl }))
     (λ fault. inl (c.in-Err-write_model.ensures.fault fault))
 
 pub returns-in-Err-write_refutation : goal.returns-in-Err-write_refutation
@@ -20,6 +20,6 @@ returns-in-Err-write_refutation g c =
     cut-refutation-answers c.in-Err-write_refutation.failed c.args.formula.now c.in-Ok-Unsatisfiable.log _ _
     c.bare-in-Err-write_refutation.result
     (bare.status ∙ c.cut_status-in-Err-write_refutation.ensures)
-        (record { model = bare.model; log = bare.log }) log.accepted
+    (record { model = bare.model; log = bare.log }) log.accepted
     (rw c.all.ensures at c.in-Err-write_refutation.ensures.err)
     c.in-Err-write_refutation.ensures.fault

@@ -6,7 +6,7 @@ pub returns-in-Ok : goal.returns-in-Ok
 returns-in-Ok g c =
     answer-solves _ _ c.in-Ok.formula c.answer.result
     (read-from (g.A.Source.left c.args.cnf.now) (g.A.Source.left c.read.new.source) c.in-Ok.formula
-        c.in-Ok.ensures.answer)
+    c.in-Ok.ensures.answer)
     c.answer.ensures
 
 pub returns-in-Err-Grammar : goal.returns-in-Err-Grammar
@@ -15,7 +15,7 @@ returns-in-Err-Grammar g c =
     fault-solves c.write_fault.result _ _ c.in-Err-Grammar.fault c.ended.result
     (fault-from (g.A.Source.left c.args.cnf.now) (g.A.Source.left c.read.new.source) c.in-Err-Grammar.fault reads)
     c.write_fault.ensures.ok c.write_fault.ensures.err c.write_fault.ensures.fault refl
-        c.ended.ensures.status c.ended.ensures.bare
+    c.ended.ensures.status c.ended.ensures.bare
 
 pub returns-in-Err-ReadFault : goal.returns-in-Err-ReadFault
 returns-in-Err-ReadFault g c =

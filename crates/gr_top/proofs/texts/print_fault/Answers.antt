@@ -10,15 +10,15 @@ pub returns-in_err-bytes-clause-err : goal.returns-in_err-bytes-clause-err
 returns-in_err-bytes-clause-err g c =
     on-err c.from_residual.result
     (part-longer (codes "c fault: line ") (decimal c.args.fault.line ++ kind_line c.args.fault.kind)
-        c.args.printer.now.pending _ _ c.in_err-bytes.ensures.err)
+    c.args.printer.now.pending _ _ c.in_err-bytes.ensures.err)
 
 pub returns-in_err-bytes-2-clause-err : goal.returns-in_err-bytes-2-clause-err
 returns-in_err-bytes-2-clause-err g c =
     let line = c.as_bytes.ensures.value ∙ c.format-line.ensures.text in
     on-err c.from_residual-in_err-bytes-2.result
     (second-failed (codes "c fault: line ") (decimal c.args.fault.line) (kind_line c.args.fault.kind)
-        _ _ _ c.args.printer.now.pending c.bytes.new.self.pending
-        c.in_ok-bytes.ensures.ok (rw line at c.in_err-bytes-2.ensures.err))
+    _ _ _ c.args.printer.now.pending c.bytes.new.self.pending
+    c.in_ok-bytes.ensures.ok (rw line at c.in_err-bytes-2.ensures.err))
 
 pub returns-clause-ok : goal.returns-clause-ok
 returns-clause-ok g c =

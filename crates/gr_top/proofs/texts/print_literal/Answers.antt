@@ -15,8 +15,8 @@ pub returns-in_err-bytes-clause-err : goal.returns-in_err-bytes-clause-err
 returns-in_err-bytes-clause-err g c =
     let before : c.as_bytes.result.now ≡ gap c.args.place = c.as_bytes.ensures.value ∙ c.gap.ensures in
     on-err c.from_residual.result
-        (part-longer (gap c.args.place) (signed_decimal (number_of c.args.lit)) c.args.printer.now.pending _ _
-        (rw before at c.in_err-bytes.ensures.err))
+    (part-longer (gap c.args.place) (signed_decimal (number_of c.args.lit)) c.args.printer.now.pending _ _
+    (rw before at c.in_err-bytes.ensures.err))
 
 pub returns-clause-ok : goal.returns-clause-ok
 returns-clause-ok g c =
@@ -24,9 +24,9 @@ returns-clause-ok g c =
     let narrow : SFits w32 c.number.result = search rules in
     let wide : SFits w64 c.from.result = search rules in
     let same =
-      widened c.number.result c.from.result (number_of c.args.lit) narrow wide c.from.ensures c.number.ensures in
+    widened c.number.result c.from.result (number_of c.args.lit) narrow wide c.from.ensures c.number.ensures in
     ok-then (gap c.args.place) (signed_decimal (number_of c.args.lit)) _ _ _ _ _ _ c.number-2.result
-        (rw before at c.in_ok-bytes.ensures.ok) (rw same at c.number-2.ensures.ok)
+    (rw before at c.in_ok-bytes.ensures.ok) (rw same at c.number-2.ensures.ok)
 
 pub returns-clause-err : goal.returns-clause-err
 returns-clause-err g c =
@@ -34,6 +34,6 @@ returns-clause-err g c =
     let narrow : SFits w32 c.number.result = search rules in
     let wide : SFits w64 c.from.result = search rules in
     let same =
-      widened c.number.result c.from.result (number_of c.args.lit) narrow wide c.from.ensures c.number.ensures in
+    widened c.number.result c.from.result (number_of c.args.lit) narrow wide c.from.ensures c.number.ensures in
     err-then (gap c.args.place) (signed_decimal (number_of c.args.lit)) _ _ _ _ _ c.number-2.result
-        (rw before at c.in_ok-bytes.ensures.ok) (rw same at c.number-2.ensures.err)
+    (rw before at c.in_ok-bytes.ensures.ok) (rw same at c.number-2.ensures.err)

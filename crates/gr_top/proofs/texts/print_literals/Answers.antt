@@ -20,15 +20,15 @@ loop-value-preserved g c =
     let value = get_or values at false in
     let index : c.loop-value.var + 1 - 1 ≡ c.loop-value.var = omega arith in
     let lit : c.of_var.result ≡ record { index = c.loop-value.var; positive = value } =
-      c.of_var.ensures ∙ ap (λ n. record { index = n; positive = value }) index in
+    c.of_var.ensures ∙ ap (λ n. record { index = n; positive = value }) index in
     let P : Literal → Type 0 =
-      λ l. Prints (literal_text place l) (written here.sink.now) here.pending (written then.sink.now) then.pending in
+    λ l. Prints (literal_text place l) (written here.sink.now) here.pending (written then.sink.now) then.pending in
     let split = drop_more values at false c.loop-value-test.true in
     record {
       same = c.print_literal.ensures.same ∙ c.loop-value.invariant.same;
       front =
-        rw c.next_place-place.ensures.next
-        (front-then (literals_text 0 (true_literals 0 values))
+          rw c.next_place-place.ensures.next
+          (front-then (literals_text 0 (true_literals 0 values))
           (literal_text place (record { index = c.loop-value.var; positive = value }))
           (literals_text _ (true_literals (c.loop-value.var + 1) (drop (at + 1) values)))
           (written begun.sink.now) (written here.sink.now) (written then.sink.now)
@@ -50,10 +50,10 @@ returns-in-Err-clause-err g c =
     let value = get_or values at false in
     let index : c.loop-value.var + 1 - 1 ≡ c.loop-value.var = omega arith in
     let lit : c.of_var.result ≡ record { index = c.loop-value.var; positive = value } =
-      c.of_var.ensures ∙ ap (λ n. record { index = n; positive = value }) index in
+    c.of_var.ensures ∙ ap (λ n. record { index = n; positive = value }) index in
     let P : Literal → Type 0 =
-      λ l. GainsPart (here.pending ++ literal_text place l) (written here.sink.now)
-          (written c.print_literal.new.printer.sink.now) in
+    λ l. GainsPart (here.pending ++ literal_text place l) (written here.sink.now)
+    (written c.print_literal.new.printer.sink.now) in
     let split = drop_more values at false c.loop-value-test.true in
     front-failed (literals_text 0 (true_literals 0 values))
     (literal_text place (record { index = c.loop-value.var; positive = value }))

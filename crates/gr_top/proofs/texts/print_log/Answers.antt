@@ -15,7 +15,7 @@ loop-line-preserved g c =
     let here = c.loop-line.printer in
     let then = c.write_line.new.printer in
     let split = drop_more lines c.loop-line.line-index c.line-item.result c.loop-line-test.true
-      ∙ ap (λ x. x ∷ drop (c.loop-line.line-index + 1) lines) (sym c.line-item.is) in
+    ∙ ap (λ x. x ∷ drop (c.loop-line.line-index + 1) lines) (sym c.line-item.is) in
     record {
       same = c.write_line.ensures.same ∙ c.loop-line.invariant.same;
       front = front-then (log_text lines) (line_text c.line-item.result)
@@ -33,7 +33,7 @@ returns-in-Err-clause-err g c =
     let begun = c.args.printer.now in
     let here = c.loop-line.printer in
     let split = drop_more lines c.loop-line.line-index c.line-item.result c.loop-line-test.true
-      ∙ ap (λ x. x ∷ drop (c.loop-line.line-index + 1) lines) (sym c.line-item.is) in
+    ∙ ap (λ x. x ∷ drop (c.loop-line.line-index + 1) lines) (sym c.line-item.is) in
     front-failed (log_text lines) (line_text c.line-item.result) (log_text (drop (c.loop-line.line-index + 1) lines))
     (written begun.sink.now) (written here.sink.now) _ begun.pending here.pending
     (rw split at c.loop-line.invariant.front) c.in-Err.ensures.err

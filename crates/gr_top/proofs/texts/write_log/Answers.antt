@@ -10,9 +10,9 @@ returns-in-Ok-clause-ok g c =
     let printed = rw begun at c.in-Ok.ensures.ok in
     rw sink
     (flushed-ok c.flush.result (log_text c.args.lines.now) (g.K.Sink.written c.args.proof.now)
-        (g.K.Sink.written c.print_log.new.printer.sink.now) (g.K.Sink.written c.flush.new.self.sink.now)
-        c.new-printer.result.pending c.print_log.new.printer.pending c.new-printer.ensures.empty printed
-            c.flush.ensures.ok)
+    (g.K.Sink.written c.print_log.new.printer.sink.now) (g.K.Sink.written c.flush.new.self.sink.now)
+    c.new-printer.result.pending c.print_log.new.printer.pending c.new-printer.ensures.empty printed
+    c.flush.ensures.ok)
 
 pub returns-in-Ok-clause-err : goal.returns-in-Ok-clause-err
 returns-in-Ok-clause-err g c =
@@ -21,6 +21,6 @@ returns-in-Ok-clause-err g c =
     let printed = rw begun at c.in-Ok.ensures.ok in
     rw sink
     (flushed-err c.flush.result (log_text c.args.lines.now) (g.K.Sink.written c.args.proof.now)
-        (g.K.Sink.written c.print_log.new.printer.sink.now) (g.K.Sink.written c.flush.new.self.sink.now)
-        c.new-printer.result.pending c.print_log.new.printer.pending c.new-printer.ensures.empty printed
-            c.flush.ensures.err)
+    (g.K.Sink.written c.print_log.new.printer.sink.now) (g.K.Sink.written c.flush.new.self.sink.now)
+    c.new-printer.result.pending c.print_log.new.printer.pending c.new-printer.ensures.empty printed
+    c.flush.ensures.err)
