@@ -8,34 +8,18 @@ use Rattle.gr_logic.specs.Formulas.{Cnf}
 use Rattle.gr_dimacs.specs.Reads.{Reads}
 use Rattle.gr_dimacs.specs.declared.faults.GrammarFault.{GrammarFault}
 use Rattle.gr_dimacs.specs.declared.faults.ReadError.TheVariants as read_errors
-use Rattle.gr_dimacs.specs.declared.limits.TheConstants.{PROGRAM_LIMITS}
 use Rattle.gr_top.specs.Sinks.{Sinks, OutRose, IsUntouched}
 use Rattle.gr_top.specs.Texts.{fault_text, usage_text}
-use Rattle.gr_top.specs.Solving.{Streams, ReadRose, IsReadFrom, IsFaultIn, AnswersBy, Answers, SolvesBy, Solves, IsBare, RefusesBy, Refuses}
+use Rattle.gr_top.specs.Solving.{Streams, program_limits, taking, ReadRose, IsReadFrom, IsFaultIn, AnswersBy, Answers, SolvesBy, Solves, IsBare, RefusesBy, Refuses}
 use Rattle.gr_top.specs.Statuses.{end_status}
 use Rattle.gr_top.specs.declared.statuses.Status.{Status}
 use Rattle.gr_top.specs.declared.statuses.Status.TheVariants.{Satisfiable, Unsatisfiable, Usage, Grammar, ReadFault, SinkFault, OutOfMemory}
 use Rattle.gr_top.specs.declared.reports.Report.{Report}
 use Rattle.gr_top.proofs.Solved.{solves}
 
--- a text that was read spells the formula
-pub read-from : (left rest : Option (List ℕ)) (f : Cnf) → Reads PROGRAM_LIMITS (Ok f) left rest → IsReadFrom left f
-read-from (Some text) (Some rest) f reads = reads.answers
-read-from (Some text) None f reads = absurd reads
-read-from None (Some rest) f reads = absurd reads
-read-from None None f reads = tt
-
--- a text that was refused has this first fault
-pub fault-from : (left rest : Option (List ℕ)) (g : GrammarFault)
-    → Reads PROGRAM_LIMITS (Err (read_errors.Grammar g)) left rest → IsFaultIn left g
-fault-from (Some text) (Some rest) g reads = reads.answers
-fault-from (Some text) None g reads = absurd reads
-fault-from None (Some rest) g reads = absurd reads
-fault-from None None g reads = tt
-
 -- an answer on the formula that was read solves its text
 answer-says : (status : Status) (old new : Streams) (f : Cnf) (r : Report)
-    → IsReadFrom old.text f → AnswersBy status f old.sinks new.sinks r → SolvesBy status old new r
+    → IsReadFrom (taking old new) f → AnswersBy status f old.sinks new.sinks r → SolvesBy status old new r
 answer-says Satisfiable old new f r read says = (f, read, says)
 answer-says Unsatisfiable old new f r read says = (f, read, says)
 answer-says SinkFault old new f r read says = inl (f, read, says)
@@ -45,7 +29,7 @@ answer-says (Grammar g) old new f r read says = absurd says
 answer-says ReadFault old new f r read says = absurd says
 
 pub answer-solves : (old new : Streams) (f : Cnf) (r : Report)
-    → IsReadFrom old.text f → Answers f old.sinks new.sinks r → Solves old new r
+    → IsReadFrom (taking old new) f → Answers f old.sinks new.sinks r → Solves old new r
 answer-solves old new f r read says = solves old new r (answer-says r.status old new f r read says)
 
 -- a report with this status
@@ -55,7 +39,7 @@ with-status status old new r is says = solves old new r (subst (λ s. SolvesBy s
 
 -- the line on the text's fault was written, or was cut off
 pub fault-solves : (done : Result (Unit {0}) SinkError) (old new : Streams) (g : GrammarFault) (r : Report)
-    → IsFaultIn old.text g
+    → IsFaultIn (taking old new) g
     → OnOk done (Gains (fault_text g) old.sinks.out new.sinks.out)
     → OnErr done (GainsPart (fault_text g) old.sinks.out new.sinks.out)
     → IfErr done (λ e. e ≡ sink_errors.Fault → OutRose old.sinks new.sinks)
@@ -70,15 +54,16 @@ fault-solves (Err sink_errors.OutOfMemory) old new g r fault whole part why proo
 
 -- the text could not be read
 pub read-fault-solves : (old new : Streams) (r : Report)
-    → ReadRose old new → Reads PROGRAM_LIMITS (Err read_errors.ReadFault) old.text new.text
+    → ReadRose old new → Reads program_limits (Err read_errors.ReadFault) old.text new.text
     → IsUntouched old.sinks new.sinks → r.status ≡ ReadFault → IsBare r → Solves old new r
 read-fault-solves old new r rose undecided same is bare =
     with-status ReadFault old new r is (rose, undecided, same, bare)
 
 -- there was no memory to read the text
 pub no-memory-solves : (old new : Streams) (r : Report)
+    → Reads program_limits (Err read_errors.OutOfMemory) old.text new.text
     → IsUntouched old.sinks new.sinks → r.status ≡ OutOfMemory → IsBare r → Solves old new r
-no-memory-solves old new r same is bare = with-status OutOfMemory old new r is (inl same, bare)
+no-memory-solves old new r reads same is bare = with-status OutOfMemory old new r is (inl (reads, same), bare)
 
 -- the usage text was written, or was cut off
 pub usage-refuses : (done : Result (Unit {0}) SinkError) (old new : Streams) (r : Report)

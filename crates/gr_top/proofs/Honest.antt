@@ -7,8 +7,8 @@ use Rattle.gr_io.proofs.Parts.{part_all}
 use Rattle.gr_logic.specs.Formulas.{Cnf}
 use Rattle.gr_dimacs.specs.declared.faults.GrammarFault.{GrammarFault}
 use Rattle.gr_top.specs.Texts.{line_of, satisfiable_line, unsatisfiable_line, satisfiable_text, fault_text}
-use Rattle.gr_top.specs.Sinks.{Sinks, IsUntouched, Tells, TellsPart, TellsRefutation, CutRefutation, InLog, InVerdict, CutAnswer, Unwritten, InModel, InRefutation, IsModel}
-use Rattle.gr_top.specs.Solving.{Shows, NoFalseVerdict, IsReadFrom}
+use Rattle.gr_top.specs.Sinks.{Sinks, TellsPart, IsModel}
+use Rattle.gr_top.specs.Solving.{Taking, Shows, NoFalseVerdict, IsReadFrom}
 
 -- what is added behind the same text is the same
 same-behind : (xs ys zs : List ℕ) → xs ++ ys ≡ xs ++ zs → ys ≡ zs
@@ -52,7 +52,7 @@ no-comment : (line more rest : List ℕ) → get_or (line ++ more) 0 0 ≡ 115 �
 no-comment line more rest first e = differ-at 0 (line ++ more) (99 ∷ rest) 115 99 first refl (λ same. omega arith) e
 
 -- neither verdict is shown where a text that begins with c was due
-pub comment-honest : (told : Option (List ℕ)) (old new : Sinks) (rest : List ℕ)
+pub comment-honest : (told : Taking) (old new : Sinks) (rest : List ℕ)
     → GainsPart (99 ∷ rest) old.out new.out → NoFalseVerdict told old new
 comment-honest told old new rest part = record {
   satisfiable = λ shows.
@@ -80,14 +80,14 @@ nothing-shown byte line old new same shows =
     differ-lengths : byte ∷ (line ++ shows.behind) ≡ [] → ⊥
     differ-lengths e = absurd (cc)
 
-pub same-honest : (told : Option (List ℕ)) (old new : Sinks) → new.out ≡ old.out → NoFalseVerdict told old new
+pub same-honest : (told : Taking) (old new : Sinks) → new.out ≡ old.out → NoFalseVerdict told old new
 same-honest told old new same = record {
   satisfiable = λ shows. absurd (nothing-shown _ _ old.out new.out same shows);
   unsatisfiable = λ shows. absurd (nothing-shown _ _ old.out new.out same shows);
 }
 
 -- where a model was due, the verdict is that it satisfies the formula
-pub model-honest : (told : Option (List ℕ)) (f : Cnf) (old new : Sinks) (model : List Bool)
+pub model-honest : (told : Taking) (f : Cnf) (old new : Sinks) (model : List Bool)
     → IsReadFrom told f → IsModel f model → GainsPart (satisfiable_text model) old.out new.out
     → NoFalseVerdict told old new
 model-honest told f old new model read is part = record {

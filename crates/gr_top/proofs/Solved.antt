@@ -1,86 +1,111 @@
 -- the solve theorem from what each status says
 use Rattle.std.proofs.Common.{◌≡◌, ◌∙◌, sym, subst, ℕ, List, inl, inr, ◌⊎◌}
-use Rattle.std.specs.Prelude.{Option, Some, None, IfSome}
+use Rattle.std.specs.Prelude.{Option, Some, None, Ok, Err}
 use Rattle.gr_io.specs.Pieces.{Gains, GainsPart}
 use Rattle.gr_io.proofs.Parts.{part_all}
 use Rattle.gr_logic.specs.Formulas.{Cnf}
 use Rattle.gr_dimacs.specs.Faults.{fault_of}
-use Rattle.gr_dimacs.specs.Reads.{IsFormulaOf}
+use Rattle.gr_dimacs.specs.Reads.{IsFormulaOf, Reads}
 use Rattle.gr_dimacs.specs.declared.faults.GrammarFault.{GrammarFault}
-use Rattle.gr_dimacs.specs.declared.limits.TheConstants.{PROGRAM_LIMITS}
+use Rattle.gr_dimacs.specs.declared.faults.ReadError.TheVariants as errors
 use Rattle.gr_top.specs.Sinks.{Sinks, OutRose}
 use Rattle.gr_top.specs.Texts.{satisfiable_text, fault_text, unsatisfiable_line}
-use Rattle.gr_top.specs.Solving.{Streams, IsFaultIn, AnswerFailed, AnswersText, CutFault, SolvesBy, Solves, NoFalseVerdict, NothingRose, IsDecision, IsRefusal, IsComplete}
+use Rattle.gr_top.specs.Solving.{Streams, program_limits, Taking, taking, IsReadFrom, IsFaultIn, AnswerFailed, AnswersText, CutFault, SolvesBy, Solves, NoFalseVerdict, NothingRose, IsDecision, IsRefusal, IsComplete}
 use Rattle.gr_top.specs.declared.statuses.Status.{Status}
 use Rattle.gr_top.specs.declared.statuses.Status.TheVariants.{Satisfiable, Unsatisfiable, Usage, Grammar, ReadFault, SinkFault, OutOfMemory}
 use Rattle.gr_top.specs.declared.reports.Report.{Report}
 use Rattle.gr_top.proofs.Honest.{comment-honest, same-honest, model-honest}
-use Rattle.gr_top.proofs.HonestRefutations.{refutation-honest, cut-answer-honest}
+use Rattle.gr_top.proofs.HonestRefutations.{refutation-honest, cut-output-honest, cut-answer-honest}
 
-cut-fault-honest : (told : Option (List ℕ)) (old new : Sinks) → CutFault told old new → NoFalseVerdict told old new
+cut-fault-honest : (told : Taking) (old new : Sinks) → CutFault told old new → NoFalseVerdict told old new
 cut-fault-honest told old new cut = comment-honest told old new _ cut.2.out
+
+-- where a sink failed, no verdict is false
+failed-honest : (told : Taking) (f : Cnf) (old new : Sinks)
+    → IsReadFrom told f → AnswerFailed f old new → NoFalseVerdict told old new
+failed-honest told f old new read (inl failed) = cut-output-honest told f old new read failed.1
+failed-honest told f old new read (inr failed) = same-honest told old new failed.1.out
 
 -- each status leaves no false verdict
 honest : (status : Status) (old new : Streams) (r : Report)
-    → SolvesBy status old new r → NoFalseVerdict old.text old.sinks new.sinks
+    → SolvesBy status old new r → NoFalseVerdict (taking old new) old.sinks new.sinks
 honest Satisfiable old new r says =
-    model-honest old.text says.0 old.sinks new.sinks r.model says.1 says.2.0 (part_all _ _ _ says.2.1.out)
-honest Unsatisfiable old new r says =
-    refutation-honest old.text says.0 old.sinks new.sinks r.log says.1 says.2.0 says.2.1.proof
+    model-honest (taking old new) says.0 old.sinks new.sinks r.model says.1 says.2.0
     (part_all _ _ _ says.2.1.out)
-honest (Grammar g) old new r says = comment-honest old.text old.sinks new.sinks _ (part_all _ _ _ says.1.out)
-honest ReadFault old new r says = same-honest old.text old.sinks new.sinks says.2.out
-honest SinkFault old new r (inl says) = cut-answer-honest old.text says.0 old.sinks new.sinks says.1 says.2.1
-honest SinkFault old new r (inr says) = cut-fault-honest old.text old.sinks new.sinks says.1
+honest Unsatisfiable old new r says =
+    refutation-honest (taking old new) says.0 old.sinks new.sinks r.log says.1 says.2.0 says.2.1.proof
+    (part_all _ _ _ says.2.1.out)
+honest (Grammar g) old new r says =
+    comment-honest (taking old new) old.sinks new.sinks _ (part_all _ _ _ says.1.out)
+honest ReadFault old new r says = same-honest (taking old new) old.sinks new.sinks says.2.out
+honest SinkFault old new r (inl says) =
+    failed-honest (taking old new) says.0 old.sinks new.sinks says.1 says.2.0
+honest SinkFault old new r (inr says) = cut-fault-honest (taking old new) old.sinks new.sinks says.1
 honest OutOfMemory old new r says = elim says.0 [
-  | inl same ↦ same-honest old.text old.sinks new.sinks same.out
-  | inr (inl cut) ↦ cut-fault-honest old.text old.sinks new.sinks cut
-  | inr (inr cut) ↦ cut-answer-honest old.text cut.0 old.sinks new.sinks cut.1 cut.2
+  | inl cut ↦ same-honest (taking old new) old.sinks new.sinks cut.1.out
+  | inr (inl cut) ↦ cut-fault-honest (taking old new) old.sinks new.sinks cut
+  | inr (inr cut) ↦ cut-answer-honest (taking old new) cut.0 old.sinks new.sinks cut.1 cut.2
 ]
 honest Usage old new r says = absurd says
 
 -- where the output or the proof log failed, something failed
 answer-failed : (f : Cnf) (old new : Streams) → NothingRose old new → AnswerFailed f old.sinks new.sinks → ⊥
-answer-failed f old new nothing (inl rose) = nothing.out rose
-answer-failed f old new nothing (inr failed) = nothing.proof failed.0.0
+answer-failed f old new nothing (inl failed) = nothing.out failed.0
+answer-failed f old new nothing (inr failed) = nothing.proof failed.0
+
+-- a told text that was refused has this first fault
+fault-of-read : (text : List ℕ) (rest : Option (List ℕ)) (g : GrammarFault)
+    → Reads program_limits (Err (errors.Grammar g)) (Some text) rest → fault_of program_limits text ≡ Some g
+fault-of-read text (Some rest) g reads = reads.answers
+fault-of-read text None g reads = absurd reads
+
+-- a told text that was read spells the formula
+formula-of-read : (text : List ℕ) (rest : Option (List ℕ)) (f : Cnf)
+    → Reads program_limits (Ok f) (Some text) rest → IsFormulaOf program_limits text f
+formula-of-read text (Some rest) f reads = reads.answers
+formula-of-read text None f reads = absurd reads
 
 -- a told text has its own fault
-fault-in : (told : Option (List ℕ)) (text : List ℕ) (g : GrammarFault)
-    → told ≡ Some text → IsFaultIn told g → fault_of PROGRAM_LIMITS text ≡ Some g
-fault-in told text g is fault = subst (λ o. IsFaultIn o g) is fault
+fault-in : (told : Taking) (text : List ℕ) (g : GrammarFault)
+    → told.left ≡ Some text → IsFaultIn told g → fault_of program_limits text ≡ Some g
+fault-in told text g is fault =
+    let P : Option (List ℕ) → Type 0 = λ o. Reads program_limits (Err (errors.Grammar g)) o told.rest in
+    fault-of-read text told.rest g (subst P is fault)
+
+-- where an answer is given, the told text has no fault
+no-fault : (told : Taking) (f : Cnf) (text : List ℕ) (g : GrammarFault)
+    → told.left ≡ Some text → IsReadFrom told f → fault_of program_limits text ≡ Some g → ⊥
+no-fault told f text g is read fault =
+    let P : Option (List ℕ) → Type 0 = λ o. Reads program_limits (Ok f) o told.rest in
+    let formula = formula-of-read text told.rest f (subst P is read) in
+    let none = formula.faultless in cc
 
 -- a told text that spells a formula is decided, where nothing failed
 decided : (status : Status) (old new : Streams) (r : Report) → SolvesBy status old new r
-    → (text : List ℕ) (f : Cnf) → old.text ≡ Some text → IsFormulaOf PROGRAM_LIMITS text f
+    → (text : List ℕ) (f : Cnf) → old.text ≡ Some text → IsFormulaOf program_limits text f
     → NothingRose old new → IsDecision status
 decided Satisfiable old new r says text f told is nothing = tt
 decided Unsatisfiable old new r says text f told is nothing = tt
 decided OutOfMemory old new r says text f told is nothing = tt
 decided (Grammar g) old new r says text f told is nothing =
-    absurd (let fault = fault-in old.text text g told says.0 in let none = is.faultless in cc)
+    absurd (let fault = fault-in (taking old new) text g told says.0 in let none = is.faultless in cc)
 decided ReadFault old new r says text f told is nothing = absurd (nothing.read says.0)
-decided SinkFault old new r (inl says) text f told is nothing = absurd (answer-failed says.0 old new nothing says.2.0)
+decided SinkFault old new r (inl says) text f told is nothing =
+    absurd (answer-failed says.0 old new nothing says.2.0)
 decided SinkFault old new r (inr says) text f told is nothing = absurd (nothing.out says.0)
 decided Usage old new r says text f told is nothing = absurd says
 
--- where an answer is given, the told text has no fault
-no-fault : (told : Option (List ℕ)) (f : Cnf) (text : List ℕ) (g : GrammarFault)
-    → told ≡ Some text → IfSome told (λ text. IsFormulaOf PROGRAM_LIMITS text f)
-    → fault_of PROGRAM_LIMITS text ≡ Some g → ⊥
-no-fault told f text g is read fault =
-    let formula : IsFormulaOf PROGRAM_LIMITS text f =
-    subst (λ o. IfSome o (λ text. IsFormulaOf PROGRAM_LIMITS text f)) is read in
-    let none = formula.faultless in cc
-
 -- a told text with a fault is refused by it, where nothing failed
 refused : (status : Status) (old new : Streams) (r : Report) → SolvesBy status old new r
-    → (text : List ℕ) (g : GrammarFault) → old.text ≡ Some text → fault_of PROGRAM_LIMITS text ≡ Some g
+    → (text : List ℕ) (g : GrammarFault) → old.text ≡ Some text → fault_of program_limits text ≡ Some g
     → NothingRose old new → IsRefusal g status
-refused Satisfiable old new r says text g told fault nothing = no-fault old.text says.0 text g told says.1 fault
-refused Unsatisfiable old new r says text g told fault nothing = no-fault old.text says.0 text g told says.1 fault
+refused Satisfiable old new r says text g told fault nothing =
+    no-fault (taking old new) says.0 text g told says.1 fault
+refused Unsatisfiable old new r says text g told fault nothing =
+    no-fault (taking old new) says.0 text g told says.1 fault
 refused OutOfMemory old new r says text g told fault nothing = tt
 refused (Grammar found) old new r says text g told fault nothing =
-    let own = fault-in old.text text found told says.0 in cc
+    let own = fault-in (taking old new) text found told says.0 in cc
 refused ReadFault old new r says text g told fault nothing = absurd (nothing.read says.0)
 refused SinkFault old new r (inl says) text g told fault nothing =
     absurd (answer-failed says.0 old new nothing says.2.0)

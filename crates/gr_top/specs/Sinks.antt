@@ -1,11 +1,13 @@
 -- what an answer leaves on the output and on the proof log
 use Rattle.std.specs.Prelude.{◌≡◌, ◌⊎◌, ℕ, Bool, List, length, Option}
 use Rattle.gr_logic.specs.Formulas.{Cnf}
-use Rattle.gr_logic.specs.Log.{Accepts}
 use Rattle.gr_logic.specs.Truth.{MeetsAll}
 use Rattle.gr_logic.specs.declared.lines.Line.{Line}
 use Rattle.gr_io.specs.Pieces.{Gains, GainsPart, Rose}
+use Rattle.gr_io.specs.declared.sinks.SinkError.{SinkError}
+use Rattle.gr_io.specs.declared.sinks.SinkError.TheVariants.{Fault}
 use Rattle.gr_lrat.specs.Writing.{log_text}
+use Rattle.gr_top.specs.Branching.{IsRefutation}
 use Rattle.gr_top.specs.Texts.{satisfiable_text, unsatisfiable_line}
 
 -- what was written to the output and to the proof log, each where it is told, and how often each failed
@@ -52,29 +54,33 @@ pub record TellsRefutation (lines : List Line) (old new : Sinks) : Type 0 where
   pub proof : Gains (log_text lines) old.proof new.proof
   pub out : Gains unsatisfiable_line old.out new.out
 
--- a refutation was cut off: a front part of the log was written, and no verdict; or the whole log, and a
--- front part of the verdict on it
-pub data CutRefutation (lines : List Line) (old new : Sinks) : Type 0 where
-  InLog : new.out ≡ old.out → GainsPart (log_text lines) old.proof new.proof → CutRefutation lines old new
-  InVerdict : Gains (log_text lines) old.proof new.proof
-      → GainsPart unsatisfiable_line old.out new.out → CutRefutation lines old new
-
--- the proof log failed, and nothing was written to the output
-abbrev pub ProofFailed : Sinks → Sinks → Type 0
-ProofFailed old new = ProofRose old new × (new.out ≡ old.out)
-
--- a sink failed: the output; or the proof log, before any byte of the verdict
-abbrev pub SinkFailed : Sinks → Sinks → Type 0
-SinkFailed old new = OutRose old new ⊎ ProofFailed old new
+-- a refutation was cut off by an error: a front part of the log was written, and no verdict; or the whole
+-- log, and a front part of the verdict on it. A fault is that of the sink that was being written
+pub data CutRefutation (lines : List Line) (old new : Sinks) (failed : SinkError) : Type 0 where
+  LogCut : GainsPart (log_text lines) old.proof new.proof → new.out ≡ old.out
+      → (failed ≡ Fault → ProofRose old new) → CutRefutation lines old new failed
+  VerdictCut : Gains (log_text lines) old.proof new.proof → GainsPart unsatisfiable_line old.out new.out
+      → (failed ≡ Fault → OutRose old new) → CutRefutation lines old new failed
 
 -- the model gives each of the formula's variables a value, and satisfies every clause
 pub record IsModel (f : Cnf) (model : List Bool) : Type 0 where
   pub whole : length model ≡ f.vars
   pub meets : MeetsAll model f.clauses
 
--- what an answer leaves that was cut off: nothing; a front part of a model; or a part of a refutation
-pub data CutAnswer (f : Cnf) (old new : Sinks) : Type 0 where
-  Unwritten : IsUntouched old new → CutAnswer f old new
+-- the output was cut off: in a model, or in the verdict on a log that is whole
+pub data CutOutput (f : Cnf) (old new : Sinks) : Type 0 where
   InModel : (model : List Bool) → IsModel f model → TellsPart (satisfiable_text model) old new
-      → CutAnswer f old new
-  InRefutation : (lines : List Line) → Accepts f lines → CutRefutation lines old new → CutAnswer f old new
+      → CutOutput f old new
+  InVerdict : (lines : List Line) → IsRefutation f lines → Gains (log_text lines) old.proof new.proof
+      → GainsPart unsatisfiable_line old.out new.out → CutOutput f old new
+
+-- the proof log was cut off, before any byte of the verdict
+pub record CutLog (f : Cnf) (old new : Sinks) : Type 0 where
+  pub lines : List Line
+  pub refutes : IsRefutation f lines
+  pub proof : GainsPart (log_text lines) old.proof new.proof
+  pub out : new.out ≡ old.out
+
+-- what an answer leaves that was cut off: nothing, a part of the output, or a part of the proof log
+abbrev pub CutAnswer : Cnf → Sinks → Sinks → Type 0
+CutAnswer f old new = IsUntouched old new ⊎ (CutOutput f old new ⊎ CutLog f old new)

@@ -1,17 +1,16 @@
 -- the solve theorem: what a call says of the formula's text, and what it leaves on its streams
-use Rattle.std.specs.Prelude.{◌≡◌, ℕ, Bool, List, [], ◌++◌, Option, Some, Err, ◌⊎◌, IfSome}
+use Rattle.std.specs.Prelude.{◌≡◌, ℕ, Bool, List, [], ◌++◌, Option, Some, Ok, Err, ◌⊎◌}
 use Rattle.gr_logic.specs.Formulas.{Cnf}
-use Rattle.gr_logic.specs.Truth.{IsUnsatisfiable}
-use Rattle.gr_logic.specs.Log.{Accepts}
 use Rattle.gr_logic.specs.declared.lines.Line.{Line}
 use Rattle.gr_io.specs.Pieces.{Gains, Rose}
 use Rattle.gr_dimacs.specs.Faults.{fault_of}
 use Rattle.gr_dimacs.specs.Reads.{IsFormulaOf, Reads}
 use Rattle.gr_dimacs.specs.declared.faults.GrammarFault.{GrammarFault}
 use Rattle.gr_dimacs.specs.declared.faults.ReadError.TheVariants as errors
-use Rattle.gr_dimacs.specs.declared.limits.TheConstants.{PROGRAM_LIMITS}
+use Rattle.gr_dimacs.specs.declared.limits.Limits.{Limits}
 use Rattle.gr_lrat.specs.Writing.{log_text}
-use Rattle.gr_top.specs.Sinks.{Sinks, sinks, OutRose, ProofRose, ProofFailed, IsUntouched, Tells, TellsPart, TellsRefutation, IsModel, CutAnswer}
+use Rattle.gr_top.specs.Branching.{IsRefutation}
+use Rattle.gr_top.specs.Sinks.{Sinks, sinks, OutRose, ProofRose, IsUntouched, Tells, TellsPart, TellsRefutation, IsModel, CutOutput, CutLog, CutAnswer}
 use Rattle.gr_top.specs.Texts.{satisfiable_line, unsatisfiable_line, satisfiable_text, fault_text, usage_text}
 use Rattle.gr_top.specs.declared.statuses.Status.{Status}
 use Rattle.gr_top.specs.declared.statuses.Status.TheVariants.{Satisfiable, Unsatisfiable, Usage, Grammar, ReadFault, SinkFault, OutOfMemory}
@@ -36,30 +35,49 @@ streams text read_faults out out_faults proof proof_faults = record {
 abbrev pub ReadRose : Streams → Streams → Type 0
 ReadRose old new = Rose old.read_faults new.read_faults
 
--- where the text is told, it spells the formula, with no fault and within the program's limits
-abbrev pub IsReadFrom : Option (List ℕ) → Cnf → Type 0
-IsReadFrom told f = IfSome told (λ text. IsFormulaOf PROGRAM_LIMITS text f)
+-- the largest formula and the longest text that the program takes
+abbrev pub program_limits : Limits
+program_limits = record {
+  vars = 1_000_000;
+  clauses = 5_000_000;
+  literals = 20_000_000;
+  bytes = 4_294_967_296;
+}
 
--- where the text is told, this is its first fault
-abbrev pub IsFaultIn : Option (List ℕ) → GrammarFault → Type 0
-IsFaultIn told g = IfSome told (λ text. fault_of PROGRAM_LIMITS text ≡ Some g)
+-- what a source had left to read, and what it has left now, each where it is told
+pub record Taking : Type 0 where
+  pub left : Option (List ℕ)
+  pub rest : Option (List ℕ)
+
+-- what a call took
+abbrev pub taking : Streams → Streams → Taking
+taking old new = record { left = old.text; rest = new.text }
+
+-- the text was read through, and spells the formula, with no fault and within the program's limits
+abbrev pub IsReadFrom : Taking → Cnf → Type 0
+IsReadFrom text f = Reads program_limits (Ok f) text.left text.rest
+
+-- this is the text's first fault
+abbrev pub IsFaultIn : Taking → GrammarFault → Type 0
+IsFaultIn text g = Reads program_limits (Err (errors.Grammar g)) text.left text.rest
 
 -- the report has neither a model nor a log
 pub record IsBare (r : Report) : Type 0 where
   pub model : r.model ≡ []
   pub log : r.log ≡ []
 
--- a sink failed: the output; or the proof log alone, and then the formula is unsatisfiable
+-- a sink failed: the output; or the proof log, before any byte of the verdict
 abbrev pub AnswerFailed : Cnf → Sinks → Sinks → Type 0
-AnswerFailed f old new = OutRose old new ⊎ (ProofFailed old new × IsUnsatisfiable f.clauses)
+AnswerFailed f old new =
+    (OutRose old new × CutOutput f old new) ⊎ (ProofRose old new × CutLog f old new)
 
 -- an answer on a formula: what its status says, and what is written
 abbrev pub AnswersBy : Status → Cnf → Sinks → Sinks → Report → Type 0
 AnswersBy Satisfiable f old new r =
     IsModel f r.model × Tells (satisfiable_text r.model) old new × (r.log ≡ [])
 AnswersBy Unsatisfiable f old new r =
-    Accepts f r.log × TellsRefutation r.log old new × (r.model ≡ [])
-AnswersBy SinkFault f old new r = AnswerFailed f old new × CutAnswer f old new × IsBare r
+    IsRefutation f r.log × TellsRefutation r.log old new × (r.model ≡ [])
+AnswersBy SinkFault f old new r = AnswerFailed f old new × IsBare r
 AnswersBy OutOfMemory f old new r = CutAnswer f old new × IsBare r
 AnswersBy Usage f old new r = ⊥
 AnswersBy (Grammar g) f old new r = ⊥
@@ -69,32 +87,37 @@ AnswersBy ReadFault f old new r = ⊥
 abbrev pub Answers : Cnf → Sinks → Sinks → Report → Type 0
 Answers f old new r = AnswersBy r.status f old new r
 
--- the report answers some formula that the text spells
-abbrev pub AnswersText : Status → Option (List ℕ) → Sinks → Sinks → Report → Type 0
-AnswersText status told old new r = (f : Cnf) × IsReadFrom told f × AnswersBy status f old new r
+-- the report answers the formula that the text spells
+abbrev pub AnswersText : Status → Taking → Sinks → Sinks → Report → Type 0
+AnswersText status text old new r = (f : Cnf) × IsReadFrom text f × AnswersBy status f old new r
 
 -- the line on the text's first fault was cut off
-abbrev pub CutFault : Option (List ℕ) → Sinks → Sinks → Type 0
-CutFault told old new = (g : GrammarFault) × IsFaultIn told g × TellsPart (fault_text g) old new
+abbrev pub CutFault : Taking → Sinks → Sinks → Type 0
+CutFault text old new = (g : GrammarFault) × IsFaultIn text g × TellsPart (fault_text g) old new
+
+-- the text could not be read for want of memory
+abbrev pub CutRead : Taking → Sinks → Sinks → Type 0
+CutRead text old new = Reads program_limits (Err errors.OutOfMemory) text.left text.rest × IsUntouched old new
 
 -- what a call leaves that was cut off: nothing; a front part of the line on the text's fault; or what the
 -- answer on the text's formula leaves
-abbrev pub CutSolve : Option (List ℕ) → Sinks → Sinks → Type 0
-CutSolve told old new =
-    IsUntouched old new ⊎ (CutFault told old new ⊎ ((f : Cnf) × IsReadFrom told f × CutAnswer f old new))
+abbrev pub CutSolve : Taking → Sinks → Sinks → Type 0
+CutSolve text old new =
+    CutRead text old new ⊎ (CutFault text old new ⊎ ((f : Cnf) × IsReadFrom text f × CutAnswer f old new))
 
 -- what each status says of the text, why it comes, and what is written then
 abbrev pub SolvesBy : Status → Streams → Streams → Report → Type 0
-SolvesBy Satisfiable old new r = AnswersText Satisfiable old.text old.sinks new.sinks r
-SolvesBy Unsatisfiable old new r = AnswersText Unsatisfiable old.text old.sinks new.sinks r
-SolvesBy (Grammar g) old new r = IsFaultIn old.text g × Tells (fault_text g) old.sinks new.sinks × IsBare r
+SolvesBy Satisfiable old new r = AnswersText Satisfiable (taking old new) old.sinks new.sinks r
+SolvesBy Unsatisfiable old new r = AnswersText Unsatisfiable (taking old new) old.sinks new.sinks r
+SolvesBy (Grammar g) old new r =
+    IsFaultIn (taking old new) g × Tells (fault_text g) old.sinks new.sinks × IsBare r
 SolvesBy ReadFault old new r =
-    ReadRose old new × Reads PROGRAM_LIMITS (Err errors.ReadFault) old.text new.text
+    ReadRose old new × Reads program_limits (Err errors.ReadFault) old.text new.text
     × IsUntouched old.sinks new.sinks × IsBare r
 SolvesBy SinkFault old new r =
-    AnswersText SinkFault old.text old.sinks new.sinks r
-    ⊎ (OutRose old.sinks new.sinks × CutFault old.text old.sinks new.sinks × IsBare r)
-SolvesBy OutOfMemory old new r = CutSolve old.text old.sinks new.sinks × IsBare r
+    AnswersText SinkFault (taking old new) old.sinks new.sinks r
+    ⊎ (OutRose old.sinks new.sinks × CutFault (taking old new) old.sinks new.sinks × IsBare r)
+SolvesBy OutOfMemory old new r = CutSolve (taking old new) old.sinks new.sinks × IsBare r
 SolvesBy Usage old new r = ⊥
 
 -- the sink tells its text, and behind the old text begins the whole line
@@ -104,12 +127,12 @@ pub record Shows (line : List ℕ) (old new : Option (List ℕ)) : Type 0 where
   pub was : old ≡ Some before
   pub is : new ≡ Some (before ++ (line ++ behind))
 
--- a verdict is written only where it is true, and UNSATISFIABLE only over a whole accepted log
-pub record NoFalseVerdict (told : Option (List ℕ)) (old new : Sinks) : Type 0 where
+-- a verdict is written only where it is true, and UNSATISFIABLE only over a whole log that refutes the formula
+pub record NoFalseVerdict (text : Taking) (old new : Sinks) : Type 0 where
   pub satisfiable : Shows satisfiable_line old.out new.out
-      → (f : Cnf) × IsReadFrom told f × (model : List Bool) × IsModel f model
+      → (f : Cnf) × IsReadFrom text f × (model : List Bool) × IsModel f model
   pub unsatisfiable : Shows unsatisfiable_line old.out new.out
-      → (f : Cnf) × IsReadFrom told f × (lines : List Line) × Accepts f lines
+      → (f : Cnf) × IsReadFrom text f × (lines : List Line) × IsRefutation f lines
       × Gains (log_text lines) old.proof new.proof
 
 -- nothing failed in the call
@@ -140,16 +163,16 @@ IsRefusal g SinkFault = ⊥
 
 -- where nothing fails, a text that spells a formula is decided, and another one is refused by its first fault
 pub record IsComplete (told : Option (List ℕ)) (old new : Streams) (status : Status) : Type 0 where
-  pub decided : (text : List ℕ) (f : Cnf) → told ≡ Some text → IsFormulaOf PROGRAM_LIMITS text f
+  pub decided : (text : List ℕ) (f : Cnf) → told ≡ Some text → IsFormulaOf program_limits text f
       → NothingRose old new → IsDecision status
-  pub refused : (text : List ℕ) (g : GrammarFault) → told ≡ Some text → fault_of PROGRAM_LIMITS text ≡ Some g
+  pub refused : (text : List ℕ) (g : GrammarFault) → told ≡ Some text → fault_of program_limits text ≡ Some g
       → NothingRose old new → IsRefusal g status
 
 -- the solve theorem: each status has its cause and its text, no verdict is false or stands over a torn log,
 -- and there is no other answer where nothing fails
 pub record Solves (old new : Streams) (r : Report) : Type 0 where
   pub answer : SolvesBy r.status old new r
-  pub honest : NoFalseVerdict old.text old.sinks new.sinks
+  pub honest : NoFalseVerdict (taking old new) old.sinks new.sinks
   pub complete : IsComplete old.text old new r.status
 
 -- what each status says where the words are no lawful command line
@@ -168,3 +191,13 @@ pub record Refuses (old new : Streams) (r : Report) : Type 0 where
   pub bare : IsBare r
   pub text : new.text ≡ old.text
   pub read_faults : new.read_faults ≡ old.read_faults
+
+-- a call that ends so does not touch the proof log
+abbrev pub SparesProof : Status → Type 0
+SparesProof Satisfiable = Unit {0}
+SparesProof Usage = Unit {0}
+SparesProof (Grammar g) = Unit {0}
+SparesProof ReadFault = Unit {0}
+SparesProof Unsatisfiable = ⊥
+SparesProof SinkFault = ⊥
+SparesProof OutOfMemory = ⊥

@@ -2,8 +2,8 @@
 ghost use Rattle.std.specs.Prelude.{◌≡◌, All, IfErr, OnOk, OnErr};
 ghost use Rattle.gr_logic.specs.Log.{HasIds};
 ghost use Rattle.gr_top.specs.Commands.{IsLawful, IsUnlawful};
-ghost use Rattle.gr_top.specs.Sinks.{sinks, SinkFailed, TellsRefutation, CutRefutation};
-ghost use Rattle.gr_top.specs.Solving.{streams, IsBare, Answers, Solves, Refuses};
+ghost use Rattle.gr_top.specs.Sinks.{sinks, TellsRefutation, CutRefutation};
+ghost use Rattle.gr_top.specs.Solving.{streams, IsBare, Answers, Solves, Refuses, SparesProof};
 ghost use Rattle.gr_top.specs.Statuses.{cut_status, end_status};
 
 use crate::branching::{Decision, decide};
@@ -41,6 +41,9 @@ pub fn run<A: Source, B: Source, C: Sink, D: Sink, G: Gate>(
         (C.written out.new) (C.faults out.new) (D.written proof.new) (D.faults proof.new))
         result }
     ensures log { log.new ≡ log.old }
+    ensures proof { SparesProof result.status → proof.new ≡ proof.old }
+    ensures out { result.status ≡ Status.ReadFault → out.new ≡ out.old }
+    ensures cnf { IsUnlawful words.now → cnf.new ≡ cnf.old }
 {
     match words.solve_files() {
         Some(_) => solve(alloc, cnf, out, proof),
@@ -55,12 +58,14 @@ fn solve<A: Source, C: Sink, D: Sink>(
     out: &mut C,
     proof: &mut D,
 ) -> Report
-    ensures { Solves
+    ensures solves { Solves
         (streams (A.left cnf.old) (A.faults cnf.old)
         (C.written out.old) (C.faults out.old) (D.written proof.old) (D.faults proof.old))
         (streams (A.left cnf.new) (A.faults cnf.new)
         (C.written out.new) (C.faults out.new) (D.written proof.new) (D.faults proof.new))
         result }
+    ensures proof { SparesProof result.status → proof.new ≡ proof.old }
+    ensures out { result.status ≡ Status.ReadFault → out.new ≡ out.old }
 {
     match read(alloc, cnf, &PROGRAM_LIMITS) {
         Ok(formula) => answer(alloc, &formula, out, proof),
@@ -76,10 +81,11 @@ fn solve<A: Source, C: Sink, D: Sink>(
 
 /// Decides the formula and tells the verdict.
 fn answer<C: Sink, D: Sink>(alloc: Global, formula: &Formula, out: &mut C, proof: &mut D) -> Report
-    ensures { Answers formula.now
+    ensures answers { Answers formula.now
         (sinks (C.written out.old) (C.faults out.old) (D.written proof.old) (D.faults proof.old))
         (sinks (C.written out.new) (C.faults out.new) (D.written proof.new) (D.faults proof.new))
         result }
+    ensures proof { SparesProof result.status → proof.new ≡ proof.old }
 {
     match decide(alloc, formula) {
         Ok(Decision::Satisfiable(model)) => match write_model(&model, out) {
@@ -112,10 +118,7 @@ fn write_refutation<C: Sink, D: Sink>(
     ensures ok { OnOk result (TellsRefutation lines.now
         (sinks (C.written out.old) (C.faults out.old) (D.written proof.old) (D.faults proof.old))
         (sinks (C.written out.new) (C.faults out.new) (D.written proof.new) (D.faults proof.new))) }
-    ensures err { OnErr result (CutRefutation lines.now
-        (sinks (C.written out.old) (C.faults out.old) (D.written proof.old) (D.faults proof.old))
-        (sinks (C.written out.new) (C.faults out.new) (D.written proof.new) (D.faults proof.new))) }
-    ensures fault { IfErr result (λ e. e ≡ SinkError.Fault → SinkFailed
+    ensures err { IfErr result (CutRefutation lines.now
         (sinks (C.written out.old) (C.faults out.old) (D.written proof.old) (D.faults proof.old))
         (sinks (C.written out.new) (C.faults out.new) (D.written proof.new) (D.faults proof.new))) }
 {
