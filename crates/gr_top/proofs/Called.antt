@@ -13,7 +13,7 @@ use Rattle.gr_top.specs.Texts.{fault_text, usage_text}
 use Rattle.gr_top.specs.Solving.{Streams, program_limits, taking, ReadRose, IsReadFrom, IsFaultIn, AnswersBy, Answers, SolvesBy, Solves, IsBare, RefusesBy, Refuses}
 use Rattle.gr_top.specs.Statuses.{end_status}
 use Rattle.gr_top.specs.declared.statuses.Status.{Status}
-use Rattle.gr_top.specs.declared.statuses.Status.TheVariants.{Satisfiable, Unsatisfiable, Usage, Grammar, ReadFault, SinkFault, OutOfMemory}
+use Rattle.gr_top.specs.declared.statuses.Status.TheVariants.{Satisfiable, Unsatisfiable, Verified, NotVerified, Usage, Grammar, LogGrammar, ReadFault, SinkFault, OutOfMemory}
 use Rattle.gr_top.specs.declared.reports.Report.{Report}
 use Rattle.gr_top.proofs.Solved.{solves}
 
@@ -25,6 +25,9 @@ answer-says Unsatisfiable old new f r read says = (f, read, says)
 answer-says SinkFault old new f r read says = inl (f, read, says)
 answer-says OutOfMemory old new f r read says = (inr (inr (f, read, says.0)), says.1)
 answer-says Usage old new f r read says = absurd says
+answer-says Verified old new f r read says = absurd says
+answer-says (NotVerified reason) old new f r read says = absurd says
+answer-says (LogGrammar fault) old new f r read says = absurd says
 answer-says (Grammar g) old new f r read says = absurd says
 answer-says ReadFault old new f r read says = absurd says
 

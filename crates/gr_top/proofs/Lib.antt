@@ -9,3 +9,5 @@ pub mod HonestRefutations
 pub mod Solved
 pub mod Answered
 pub mod Called
+pub mod JudgedLogs
+pub mod Checked

@@ -12,7 +12,7 @@ use Rattle.gr_top.specs.Sinks.{Sinks, OutRose}
 use Rattle.gr_top.specs.Texts.{satisfiable_text, fault_text, unsatisfiable_line}
 use Rattle.gr_top.specs.Solving.{Streams, program_limits, Taking, taking, IsReadFrom, IsFaultIn, AnswerFailed, AnswersText, CutFault, SolvesBy, Solves, NoFalseVerdict, NothingRose, IsDecision, IsRefusal, IsComplete}
 use Rattle.gr_top.specs.declared.statuses.Status.{Status}
-use Rattle.gr_top.specs.declared.statuses.Status.TheVariants.{Satisfiable, Unsatisfiable, Usage, Grammar, ReadFault, SinkFault, OutOfMemory}
+use Rattle.gr_top.specs.declared.statuses.Status.TheVariants.{Satisfiable, Unsatisfiable, Verified, NotVerified, Usage, Grammar, LogGrammar, ReadFault, SinkFault, OutOfMemory}
 use Rattle.gr_top.specs.declared.reports.Report.{Report}
 use Rattle.gr_top.proofs.Honest.{comment-honest, same-honest, model-honest}
 use Rattle.gr_top.proofs.HonestRefutations.{refutation-honest, cut-output-honest, cut-answer-honest}
@@ -47,6 +47,9 @@ honest OutOfMemory old new r says = elim says.0 [
   | inr (inr cut) ↦ cut-answer-honest (taking old new) cut.0 old.sinks new.sinks cut.1 cut.2
 ]
 honest Usage old new r says = absurd says
+honest Verified old new r says = absurd says
+honest (NotVerified reason) old new r says = absurd says
+honest (LogGrammar fault) old new r says = absurd says
 
 -- where the output or the proof log failed, something failed
 answer-failed : (f : Cnf) (old new : Streams) → NothingRose old new → AnswerFailed f old.sinks new.sinks → ⊥
@@ -94,6 +97,9 @@ decided SinkFault old new r (inl says) text f told is nothing =
     absurd (answer-failed says.0 old new nothing says.2.0)
 decided SinkFault old new r (inr says) text f told is nothing = absurd (nothing.out says.0)
 decided Usage old new r says text f told is nothing = absurd says
+decided Verified old new r says text f told is nothing = absurd says
+decided (NotVerified reason) old new r says text f told is nothing = absurd says
+decided (LogGrammar fault) old new r says text f told is nothing = absurd says
 
 -- a told text with a fault is refused by it, where nothing failed
 refused : (status : Status) (old new : Streams) (r : Report) → SolvesBy status old new r
@@ -111,6 +117,9 @@ refused SinkFault old new r (inl says) text g told fault nothing =
     absurd (answer-failed says.0 old new nothing says.2.0)
 refused SinkFault old new r (inr says) text g told fault nothing = absurd (nothing.out says.0)
 refused Usage old new r says text g told fault nothing = absurd says
+refused Verified old new r says text g told fault nothing = absurd says
+refused (NotVerified reason) old new r says text g told fault nothing = absurd says
+refused (LogGrammar misspelt) old new r says text g told fault nothing = absurd says
 
 -- the solve theorem holds where the report's status says what it is to say
 pub solves : (old new : Streams) (r : Report) → SolvesBy r.status old new r → Solves old new r

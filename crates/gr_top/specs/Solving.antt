@@ -13,7 +13,7 @@ use Rattle.gr_top.specs.Branching.{IsRefutation}
 use Rattle.gr_top.specs.Sinks.{Sinks, sinks, OutRose, ProofRose, IsUntouched, Tells, TellsPart, TellsRefutation, IsModel, CutOutput, CutLog, CutAnswer}
 use Rattle.gr_top.specs.Texts.{satisfiable_line, unsatisfiable_line, satisfiable_text, fault_text, usage_text}
 use Rattle.gr_top.specs.declared.statuses.Status.{Status}
-use Rattle.gr_top.specs.declared.statuses.Status.TheVariants.{Satisfiable, Unsatisfiable, Usage, Grammar, ReadFault, SinkFault, OutOfMemory}
+use Rattle.gr_top.specs.declared.statuses.Status.TheVariants.{Satisfiable, Unsatisfiable, Verified, NotVerified, Usage, Grammar, LogGrammar, ReadFault, SinkFault, OutOfMemory}
 use Rattle.gr_top.specs.declared.reports.Report.{Report}
 
 -- what the streams of a call show: the text that is left to read, where it is told, how often reading
@@ -80,6 +80,9 @@ AnswersBy Unsatisfiable f old new r =
 AnswersBy SinkFault f old new r = AnswerFailed f old new × IsBare r
 AnswersBy OutOfMemory f old new r = CutAnswer f old new × IsBare r
 AnswersBy Usage f old new r = ⊥
+AnswersBy Verified f old new r = ⊥
+AnswersBy (NotVerified reason) f old new r = ⊥
+AnswersBy (LogGrammar fault) f old new r = ⊥
 AnswersBy (Grammar g) f old new r = ⊥
 AnswersBy ReadFault f old new r = ⊥
 
@@ -119,6 +122,9 @@ SolvesBy SinkFault old new r =
     ⊎ (OutRose old.sinks new.sinks × CutFault (taking old new) old.sinks new.sinks × IsBare r)
 SolvesBy OutOfMemory old new r = CutSolve (taking old new) old.sinks new.sinks × IsBare r
 SolvesBy Usage old new r = ⊥
+SolvesBy Verified old new r = ⊥
+SolvesBy (NotVerified reason) old new r = ⊥
+SolvesBy (LogGrammar fault) old new r = ⊥
 
 -- the sink tells its text, and behind the old text begins the whole line
 pub record Shows (line : List ℕ) (old new : Option (List ℕ)) : Type 0 where
@@ -147,6 +153,9 @@ IsDecision Satisfiable = Unit {0}
 IsDecision Unsatisfiable = Unit {0}
 IsDecision OutOfMemory = Unit {0}
 IsDecision Usage = ⊥
+IsDecision Verified = ⊥
+IsDecision (NotVerified reason) = ⊥
+IsDecision (LogGrammar fault) = ⊥
 IsDecision (Grammar g) = ⊥
 IsDecision ReadFault = ⊥
 IsDecision SinkFault = ⊥
@@ -158,6 +167,9 @@ IsRefusal g OutOfMemory = Unit {0}
 IsRefusal g Satisfiable = ⊥
 IsRefusal g Unsatisfiable = ⊥
 IsRefusal g Usage = ⊥
+IsRefusal g Verified = ⊥
+IsRefusal g (NotVerified reason) = ⊥
+IsRefusal g (LogGrammar fault) = ⊥
 IsRefusal g ReadFault = ⊥
 IsRefusal g SinkFault = ⊥
 
@@ -182,6 +194,9 @@ RefusesBy SinkFault old new = OutRose old new × TellsPart usage_text old new
 RefusesBy OutOfMemory old new = TellsPart usage_text old new
 RefusesBy Satisfiable old new = ⊥
 RefusesBy Unsatisfiable old new = ⊥
+RefusesBy Verified old new = ⊥
+RefusesBy (NotVerified reason) old new = ⊥
+RefusesBy (LogGrammar fault) old new = ⊥
 RefusesBy (Grammar g) old new = ⊥
 RefusesBy ReadFault old new = ⊥
 
@@ -198,6 +213,9 @@ SparesProof Satisfiable = Unit {0}
 SparesProof Usage = Unit {0}
 SparesProof (Grammar g) = Unit {0}
 SparesProof ReadFault = Unit {0}
+SparesProof Verified = Unit {0}
+SparesProof (NotVerified reason) = Unit {0}
+SparesProof (LogGrammar fault) = Unit {0}
 SparesProof Unsatisfiable = ⊥
 SparesProof SinkFault = ⊥
 SparesProof OutOfMemory = ⊥

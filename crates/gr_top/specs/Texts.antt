@@ -70,4 +70,4 @@ fault_text g = codes "c fault: line " ++ (decimal g.line ++ kind_line g.kind)
 
 -- how the program is called
 abbrev pub usage_text : List ℕ
-usage_text = line_of (codes "c usage: glucored solve CNF LOG")
+usage_text = line_of (codes "c usage: glucored solve CNF LOG") ++ line_of (codes "c usage: glucored check CNF LOG")

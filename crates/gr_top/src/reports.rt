@@ -1,7 +1,10 @@
 // What a call hands back.
 ghost use Rattle.std.specs.Prelude.{◌≡◌, []};
+ghost use Rattle.gr_top.specs.Solving.{IsBare};
+ghost use Rattle.gr_top.specs.Statuses.{end_status};
 
-use crate::statuses::Status;
+use crate::statuses::{Status, cut_status};
+use gr_io::SinkError;
 use gr_logic::{Assignment, LogLines};
 use std::alloc::Global;
 
@@ -27,5 +30,16 @@ impl Report {
             model: Assignment::empty(alloc),
             log: LogLines::new(alloc),
         }
+    }
+}
+
+/// The report of a call that was to end so, once its text was written.
+pub fn ended(alloc: Global, done: Result<(), SinkError>, due: Status) -> Report
+    ensures status { result.status ≡ end_status done due }
+    ensures bare { IsBare result }
+{
+    match done {
+        Ok(()) => Report::bare(alloc, due),
+        Err(failed) => Report::bare(alloc, cut_status(failed)),
     }
 }

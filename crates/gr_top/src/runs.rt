@@ -1,16 +1,17 @@
 // The call that the program makes.
 ghost use Rattle.std.specs.Prelude.{◌≡◌, All, IfErr, OnOk, OnErr};
 ghost use Rattle.gr_logic.specs.Log.{HasIds};
-ghost use Rattle.gr_top.specs.Commands.{IsLawful, IsUnlawful};
+ghost use Rattle.gr_top.specs.Checking.{Checks, output, sources};
+ghost use Rattle.gr_top.specs.Commands.{IsCheck, IsSolve, IsUnlawful};
 ghost use Rattle.gr_top.specs.Sinks.{sinks, TellsRefutation, CutRefutation};
-ghost use Rattle.gr_top.specs.Solving.{streams, IsBare, Answers, Solves, Refuses, SparesProof};
-ghost use Rattle.gr_top.specs.Statuses.{cut_status, end_status};
+ghost use Rattle.gr_top.specs.Solving.{streams, Answers, Solves, Refuses, SparesProof};
 
 use crate::branching::{Decision, decide};
-use crate::reports::Report;
-use crate::statuses::Status;
+use crate::checks::run_check;
+use crate::reports::{Report, ended};
+use crate::statuses::{Status, cut_status};
 use crate::texts::{write_fault, write_log, write_model, write_unsatisfiable, write_usage};
-use crate::words::Words;
+use crate::words::{Command, Words};
 use gr_dimacs::{PROGRAM_LIMITS, ReadError, read};
 use gr_io::{Gate, Sink, SinkError, Source};
 use gr_logic::{Assignment, Formula, Line, LogLines};
@@ -18,7 +19,9 @@ use std::alloc::Global;
 
 /// Runs the program over its words and its streams. For the words `solve CNF LOG` it reads a formula in DIMACS CNF from
 /// `cnf`, decides it, writes the lines of a refutation to `proof` in text LRAT and then the verdict to `out`, for a
-/// satisfiable formula with an assignment. `log` is not read, and `gate` is not passed. It waits for nothing.
+/// satisfiable formula with an assignment; `log` is not read. For the words `check CNF LOG` it checks the proof log that
+/// it reads from `log` against the formula, and writes to `out` what it comes to. `gate` is not passed. It waits for
+/// nothing.
 pub fn run<A: Source, B: Source, C: Sink, D: Sink, G: Gate>(
     alloc: Global,
     words: &Words,
@@ -28,11 +31,16 @@ pub fn run<A: Source, B: Source, C: Sink, D: Sink, G: Gate>(
     proof: &mut D,
     gate: &G,
 ) -> Report
-    ensures lawful { IsLawful words.now → Solves
+    ensures solve { IsSolve words.now → Solves
         (streams (A.left cnf.old) (A.faults cnf.old)
         (C.written out.old) (C.faults out.old) (D.written proof.old) (D.faults proof.old))
         (streams (A.left cnf.new) (A.faults cnf.new)
         (C.written out.new) (C.faults out.new) (D.written proof.new) (D.faults proof.new))
+        result }
+    ensures check { IsCheck words.now → Checks
+        (sources (A.left cnf.old) (A.faults cnf.old) (B.left log.old) (B.faults log.old))
+        (sources (A.left cnf.new) (A.faults cnf.new) (B.left log.new) (B.faults log.new))
+        (output (C.written out.old) (C.faults out.old)) (output (C.written out.new) (C.faults out.new))
         result }
     ensures unlawful { IsUnlawful words.now → Refuses
         (streams (A.left cnf.old) (A.faults cnf.old)
@@ -40,13 +48,15 @@ pub fn run<A: Source, B: Source, C: Sink, D: Sink, G: Gate>(
         (streams (A.left cnf.new) (A.faults cnf.new)
         (C.written out.new) (C.faults out.new) (D.written proof.new) (D.faults proof.new))
         result }
-    ensures log { log.new ≡ log.old }
+    ensures log { (IsCheck words.now → ⊥) → log.new ≡ log.old }
     ensures proof { SparesProof result.status → proof.new ≡ proof.old }
-    ensures out { result.status ≡ Status.ReadFault → out.new ≡ out.old }
+    ensures proof_of_check { IsCheck words.now → proof.new ≡ proof.old }
+    ensures out { IsSolve words.now → result.status ≡ Status.ReadFault → out.new ≡ out.old }
     ensures cnf { IsUnlawful words.now → cnf.new ≡ cnf.old }
 {
-    match words.solve_files() {
-        Some(_) => solve(alloc, cnf, out, proof),
+    match words.call() {
+        Some((Command::Solve, _, _)) => solve(alloc, cnf, out, proof),
+        Some((Command::Check, _, _)) => run_check(alloc, cnf, log, out),
         None => ended(alloc, write_usage(out), Status::Usage),
     }
 }
@@ -126,26 +136,5 @@ fn write_refutation<C: Sink, D: Sink>(
     match write_log(lines, proof) {
         Ok(()) => write_unsatisfiable(out),
         Err(failed) => Err(failed),
-    }
-}
-
-/// The report of a call that was to end so, once its text was written.
-fn ended(alloc: Global, done: Result<(), SinkError>, due: Status) -> Report
-    ensures status { result.status ≡ end_status done due }
-    ensures bare { IsBare result }
-{
-    match done {
-        Ok(()) => Report::bare(alloc, due),
-        Err(failed) => Report::bare(alloc, cut_status(failed)),
-    }
-}
-
-/// The status where a sink did not take a text.
-fn cut_status(failed: SinkError) -> Status
-    ensures { result ≡ cut_status failed }
-{
-    match failed {
-        SinkError::Fault => Status::SinkFault,
-        SinkError::OutOfMemory => Status::OutOfMemory,
     }
 }

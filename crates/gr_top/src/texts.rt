@@ -34,7 +34,7 @@ pub fn write_usage<K: Sink>(out: &mut K) -> Result<(), SinkError>
     ensures fault { IfErr result (λ e. e ≡ SinkError.Fault → Rose (K.faults out.old) (K.faults out.new)) }
     ensures grows { K.faults out.old ≤ K.faults out.new }
 {
-    out.write(b"c usage: glucored solve CNF LOG\n")
+    out.write(b"c usage: glucored solve CNF LOG\nc usage: glucored check CNF LOG\n")
 }
 
 /// Writes the verdict that no assignment satisfies the formula.

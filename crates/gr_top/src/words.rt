@@ -1,11 +1,20 @@
 // The words of the command line.
 ghost use Rattle.std.specs.Prelude.{◌≡◌, ◌++◌, ◌∷◌, [], IfOk, IfNone, IfSome, OnOk, OnErr};
-ghost use Rattle.gr_top.specs.Commands.{SolvesFiles, IsUnlawful, Names, is_file_name};
+ghost use Rattle.gr_top.specs.Commands.{Calls, IsUnlawful, Names, command_name, is_file_name};
 
 use crate::file_names::Files;
 use gr_logic::OutOfMemory;
 use std::alloc::Global;
 use std::marker::Model;
+
+/// What the program can be told to do.
+#[derive(Clone, Copy, Debug, PartialEq, Eq)]
+pub enum Command {
+    /// Decide a formula.
+    Solve,
+    /// Check a proof log against a formula.
+    Check,
+}
 
 /// The command line's words after the program's name: a contract sees the list of their texts.
 #[derive(Debug, Drop)]
@@ -42,24 +51,38 @@ impl Words {
         Ok(())
     }
 
-    /// The words CNF and LOG, where the words are `solve CNF LOG`.
-    pub(crate) fn solve_files(&self) -> Option<(&str, &str)>
-        ensures some { IfSome result (λ found. SolvesFiles self.now found.0.now found.1.now) }
+    /// The command and the words CNF and LOG, where the words are `solve CNF LOG` or `check CNF LOG`.
+    pub(crate) fn call(&self) -> Option<(Command, &str, &str)>
+        ensures some { IfSome result (λ found. Calls found.0 self.now found.1.now found.2.now) }
         ensures none { IfNone result (IsUnlawful self.now) }
     {
         match self.words.as_slice() {
-            [command, cnf, log] => {
-                if command.as_str() == "solve"
-                    && is_file_name(cnf.as_str())
-                    && is_file_name(log.as_str())
-                {
-                    return Some((cnf.as_str(), log.as_str()));
+            [name, cnf, log] => {
+                if is_file_name(cnf.as_str()) && is_file_name(log.as_str()) {
+                    return match command_named(name.as_str()) {
+                        Some(command) => Some((command, cnf.as_str(), log.as_str())),
+                        None => None,
+                    };
                 }
                 None
             }
             _ => None,
         }
     }
+}
+
+/// The command of this name.
+fn command_named(name: &str) -> Option<Command>
+    ensures some { IfSome result (λ command. name.now ≡ command_name command) }
+    ensures none { IfNone result ((command : Command) → name.now ≡ command_name command → ⊥) }
+{
+    if name == "solve" {
+        return Some(Command::Solve);
+    }
+    if name == "check" {
+        return Some(Command::Check);
+    }
+    None
 }
 
 /// Whether a word may name a file: it is not empty and does not begin with a dash.
@@ -76,7 +99,10 @@ fn is_file_name(word: &str) -> bool
 pub fn files(alloc: Global, words: &Words) -> Result<Files, OutOfMemory>
     ensures { IfOk result (Names words.now) }
 {
-    let (cnf, log) = words.solve_files().unwrap_or(("", ""));
+    let (cnf, log) = match words.call() {
+        Some((_, cnf, log)) => (cnf, log),
+        None => ("", ""),
+    };
     let cnf = String::from_str(alloc, cnf)?;
     let log = String::from_str(alloc, log)?;
     Ok(Files { cnf, log })
