@@ -3,3 +3,9 @@ pub mod Sound
 pub mod LogSound
 pub mod LogAppend
 pub mod LogGrows
+pub mod SameLiteral
+pub mod FiniteSets
+pub mod FirstOccurrences
+pub mod Closures
+pub mod Walks
+pub mod Readings

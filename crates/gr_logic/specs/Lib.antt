@@ -5,3 +5,9 @@ pub mod Formulas
 pub mod Rup
 pub mod Log
 pub mod Laws
+pub mod Closure
+pub mod Greedy
+pub mod LiteralSets
+pub mod NormalForms
+pub mod ClosureLaws
+pub mod Seen

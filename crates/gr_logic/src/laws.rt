@@ -1,4 +1,5 @@
 // Laws of the definitions: each is the contract of a function that does nothing.
+ghost use Rattle.gr_logic.specs.ClosureLaws.{UnitStepsReadSets, ClosureGrows, GreedyIsUnique, GreedyIsWithin, NormalFormsAreNormal};
 ghost use Rattle.gr_logic.specs.Laws.{UnitStepsAreSound, AdditionsAreImplied, AcceptedLogsRefute};
 
 /// What unit steps along hints accept is implied by the clauses that they read.
@@ -14,4 +15,29 @@ pub fn additions_are_implied()
 /// No assignment satisfies a formula that has an accepted log.
 pub fn accepted_logs_refute()
     ensures { AcceptedLogsRefute }
+{}
+
+/// Unit steps read each clause as the set of its literals.
+pub fn unit_steps_read_sets()
+    ensures { UnitStepsReadSets }
+{}
+
+/// More clauses and more given literals derive no less.
+pub fn closure_grows()
+    ensures { ClosureGrows }
+{}
+
+/// Greedy strengthening has one outcome.
+pub fn greedy_is_unique()
+    ensures { GreedyIsUnique }
+{}
+
+/// Greedy strengthening keeps literals of the clause alone.
+pub fn greedy_is_within()
+    ensures { GreedyIsWithin }
+{}
+
+/// The first occurrences in a clause that is no tautology are normal, and the same set.
+pub fn normal_forms_are_normal()
+    ensures { NormalFormsAreNormal }
 {}

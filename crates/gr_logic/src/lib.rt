@@ -7,18 +7,26 @@ mod formulas;
 mod id_lists;
 pub mod laws;
 mod lines;
+mod literal_sets;
 mod literals;
 mod log_lines;
 mod memory;
+mod normal_forms;
+mod normalizing;
+mod places;
 
 pub use assignments::Assignment;
 pub use clauses::Clause;
 pub use formulas::Formula;
 pub use id_lists::Ids;
 pub use lines::Line;
+pub use literal_sets::LitSet;
 pub use literals::Lit;
 pub use log_lines::LogLines;
 pub use memory::OutOfMemory;
+pub use normal_forms::Normal;
+pub use normalizing::normal;
+pub use places::Place;
 
 #[cfg(test)]
 mod tests;

@@ -1,5 +1,5 @@
 // Each public call on its happy path, on values from outside.
-use crate::{Assignment, Clause, Formula, Ids, Line, Lit, LogLines};
+use crate::{Assignment, Clause, Formula, Ids, Line, Lit, LitSet, LogLines, Normal, Place, normal};
 use std::alloc::Global;
 use std::test::Fail;
 
@@ -67,5 +67,77 @@ fn keeps_what_is_pushed(rt: HostRuntime) -> Result<(), Fail> {
         hints: ids,
     })?;
     assert_eq!(rt; log.all().len(), 1);
+    Ok(())
+}
+
+#[test]
+fn holds_the_literals_that_were_added(rt: HostRuntime) -> Result<(), Fail> {
+    let mut set = LitSet::new(rt.alloc());
+    assert!(rt; !set.has(lit(3)?), "in the empty set");
+    set.add(lit(3)?)?;
+    assert!(rt; set.has(lit(3)?));
+    assert!(rt; !set.has(lit(-3)?), "the negation");
+    set.add(lit(-1_000_000)?)?;
+    set.add(lit(1)?)?;
+    assert!(rt; set.has(lit(-1_000_000)?) && set.has(lit(1)?) && set.has(lit(3)?));
+    assert!(rt; !set.has(lit(2)?));
+    assert_eq!(rt; Place(4).0, 4);
+    Ok(())
+}
+
+/// The numbers of a normal clause, or 0 for a tautology.
+fn normal_numbers(alloc: Global, numbers: &[i32]) -> Result<Vec<i32>, Fail> {
+    let mut outcome = Vec::new(alloc);
+    match normal(alloc, &clause(alloc, numbers)?)? {
+        Normal::Tautology => outcome.push(0)?,
+        Normal::Clause(firsts) => {
+            for one in firsts.lits() {
+                outcome.push(one.number())?;
+            }
+        }
+    }
+    Ok(outcome)
+}
+
+#[test]
+fn makes_clauses_normal(rt: HostRuntime) -> Result<(), Fail> {
+    let alloc = rt.alloc();
+    let rows: [(&[i32], &[i32]); 6] = [
+        (&[2, 1, 2], &[2, 1]),
+        (&[1, -1], &[0]),
+        (&[], &[]),
+        (&[-4, 3, 3, -4], &[-4, 3]),
+        (&[5, 2, 5, -2], &[0]),
+        (&[7], &[7]),
+    ];
+    for (numbers, wanted) in rows {
+        assert_eq!(rt;
+            normal_numbers(alloc, numbers)?.as_slice(),
+            wanted,
+            "of {numbers:?}"
+        );
+    }
+    Ok(())
+}
+
+#[test]
+fn makes_long_clauses_normal(rt: HostRuntime) -> Result<(), Fail> {
+    let alloc = rt.alloc();
+    let mut numbers = Vec::new(alloc);
+    for n in 0..50u16 {
+        numbers.push(i32::from(n) - 60)?;
+    }
+    let firsts = numbers.as_slice().to_vec(alloc)?;
+    numbers.push(-60)?;
+    numbers.push(-11)?;
+    assert_eq!(rt;
+        normal_numbers(alloc, numbers.as_slice())?.as_slice(),
+        firsts.as_slice()
+    );
+    numbers.push(30)?;
+    assert_eq!(rt;
+        normal_numbers(alloc, numbers.as_slice())?.as_slice(),
+        [0].as_slice()
+    );
     Ok(())
 }

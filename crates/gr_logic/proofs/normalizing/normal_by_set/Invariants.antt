@@ -1,0 +1,13 @@
+use Rattle.std.proofs.Common.{◌≡◌, take}
+use Rattle.gr_logic.specs.NormalForms.{first_occurrences}
+use Rattle.gr_logic.specs.Seen.{Sees}
+use Rattle.gr_logic.proofs.FirstOccurrences.{IsApart}
+use Rattle.gr_logic.proofs.normalizing.normal_by_set.Given as goal
+
+abbrev pub invariant-loop-lit : goal.invariant-loop-lit
+invariant-loop-lit l =
+    record {
+      firsts : l.firsts ≡ first_occurrences (take l.lit-index l.lits);
+      seen : Sees l.seen l.firsts;
+      apart : IsApart (take l.lit-index l.lits);
+    }
