@@ -10,7 +10,7 @@ use Rattle.gr_logic.specs.NormalForms.{IsTautology, IsNormal, first_occurrences,
 use Rattle.gr_logic.specs.ClosureLaws.{NormalFormsAreNormal}
 use Rattle.gr_logic.proofs.Members.{members-push_at}
 use Rattle.gr_logic.proofs.Sound.{same_literal-is}
-use Rattle.gr_logic.proofs.SameLiteral.{same_literal-itself, negation-negation, negation-apart, members-first, members-later}
+use Rattle.gr_logic.proofs.SameLiteral.{negation-negation, negation-apart, members-first, members-later}
 
 -- the list without a literal
 abbrev pub without : Literal → List Literal → List Literal

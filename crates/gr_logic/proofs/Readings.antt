@@ -1,9 +1,9 @@
 -- how a clause reads, by its members alone
 use Rattle.std.proofs.Common.{◌≡◌, ℕ, Bool, true, false, not, ◌||◌, ◌&&◌, List, [], ◌∷◌, Option, Some, None, refl, sym, ap, ◌∙◌, subst, if◌then◌else◌}
-use Rattle.std.specs.List.{list_any, list_all, filter}
+use Rattle.std.specs.List.{list_all, filter}
 use Rattle.std.specs.Option.{option_map}
 use Rattle.gr_logic.specs.Literals.{Literal, negation, same_literal}
-use Rattle.gr_logic.specs.Rup.{LiteralSet, Live, members, negated, with_literal, false_in, Reading, Falsified, Forces, Undecided, reading, reading_of_open, Answer, steps, after_hint, after_reading, rup}
+use Rattle.gr_logic.specs.Rup.{LiteralSet, Live, members, negated, with_literal, false_in, Reading, Falsified, Forces, Undecided, reading, reading_of_open, Answer, steps, after_hint, after_reading}
 use Rattle.gr_logic.specs.Closure.{family_of}
 use Rattle.gr_logic.specs.ClosureLaws.{UnitStepsReadSets}
 use Rattle.gr_logic.proofs.Sound.{same_literal-is}

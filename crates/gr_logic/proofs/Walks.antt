@@ -1,9 +1,9 @@
 -- greedy strengthening has one outcome, of literals of the clause
-use Rattle.std.proofs.Common.{◌≡◌, ◌⊎◌, inl, inr, Bool, true, false, ◌||◌, List, [], ◌∷◌, ◌++◌, refl, sym, ap, ◌∙◌}
-use Rattle.gr_logic.specs.Literals.{Literal, negation, same_literal}
+use Rattle.std.proofs.Common.{◌≡◌, inl, inr, Bool, true, false, ◌||◌, List, [], ◌∷◌, ◌++◌, refl, sym, ap, ◌∙◌}
+use Rattle.gr_logic.specs.Literals.{Literal, same_literal}
 use Rattle.gr_logic.specs.Rup.{members, negated}
-use Rattle.gr_logic.specs.Closure.{ClauseFamily, InClosure, DerivesConflict, IsWithin}
-use Rattle.gr_logic.specs.Greedy.{WalkKeeps, WalksPast, GreedyKeeps}
+use Rattle.gr_logic.specs.Closure.{ClauseFamily, DerivesConflict}
+use Rattle.gr_logic.specs.Greedy.{WalkKeeps, WalksPast}
 use Rattle.gr_logic.specs.ClosureLaws.{GreedyIsUnique, GreedyIsWithin}
 use Rattle.gr_logic.proofs.Members.{members-push_at}
 

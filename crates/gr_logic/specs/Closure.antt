@@ -1,5 +1,5 @@
 -- unit propagation as a least fixpoint (Davis, Logemann and Loveland, CACM 1962: the rule of one-literal clauses)
-use Rattle.std.specs.Prelude.{◌≡◌, ◌⊎◌, ℕ, Bool, true, false, List, Option, Some, slice_get}
+use Rattle.std.specs.Prelude.{◌≡◌, ◌⊎◌, ℕ, true, false, List, Option, Some, slice_get}
 use Rattle.std.specs.Option.{option_map}
 use Rattle.gr_logic.specs.Literals.{Literal, negation, same_literal}
 use Rattle.gr_logic.specs.Rup.{LiteralSet, Live, members}

@@ -1,4 +1,4 @@
-use Rattle.std.proofs.Common.{◌≡◌, ◌∙◌, sym, ap, take}
+use Rattle.std.proofs.Common.{◌∙◌, sym, ap}
 use Rattle.gr_logic.specs.Literals.{negation}
 use Rattle.gr_logic.specs.Rup.{members}
 use Rattle.gr_logic.specs.NormalForms.{with_new}

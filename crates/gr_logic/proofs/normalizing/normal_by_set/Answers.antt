@@ -1,8 +1,7 @@
-use Rattle.std.proofs.Common.{◌≡◌, ◌∙◌, sym, ap, take}
+use Rattle.std.proofs.Common.{◌∙◌, sym, ap}
 use Rattle.std.specs.HashSet as set
 use Rattle.gr_logic.specs.Literals.{negation}
 use Rattle.gr_logic.specs.Seen.{same_code}
-use Rattle.gr_logic.specs.Rup.{members}
 use Rattle.gr_logic.specs.NormalForms.{with_new}
 use Rattle.gr_logic.proofs.FirstOccurrences.{first_occurrences-next, members-front, apart-next, tautology-at}
 use Rattle.gr_logic.proofs.normalizing.normal_by_set.Goals as goal

@@ -1,8 +1,7 @@
-use Rattle.std.proofs.Common.{sym, ap, ◌∙◌, ◌≡◌, ◌≤◌, ◌<◌, false, arith, slice_index_or, nat_lt, length}
+use Rattle.std.proofs.Common.{sym, ap, ◌∙◌, ◌≡◌, false, arith, slice_index_or, nat_lt}
 use Rattle.std.specs.FinSet as set
 use Rattle.std.proofs.lemmas.Bool.Decides.{nat_tests}
 use Rattle.std.proofs.lemmas.List.{get_or_read, get_or_past}
-use Rattle.gr_logic.specs.Codes.{code_of}
 use Rattle.gr_logic.proofs.FiniteSets.{contains-flagged}
 use Rattle.gr_logic.proofs.literal_sets.LitSet.has.Goals as goal
 
