@@ -11,3 +11,4 @@ pub mod LiteralSets
 pub mod NormalForms
 pub mod ClosureLaws
 pub mod Seen
+pub mod Words

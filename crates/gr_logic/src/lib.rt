@@ -14,6 +14,7 @@ mod memory;
 mod normal_forms;
 mod normalizing;
 mod places;
+mod words;
 
 pub use assignments::Assignment;
 pub use clauses::Clause;
@@ -27,6 +28,7 @@ pub use memory::OutOfMemory;
 pub use normal_forms::Normal;
 pub use normalizing::normal;
 pub use places::Place;
+pub use words::{Word, as_lits, as_words};
 
 #[cfg(test)]
 mod tests;
