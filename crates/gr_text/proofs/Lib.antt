@@ -1,5 +1,6 @@
 pub mod Windows
 pub mod Marks
+pub mod Lanes
 pub mod Leads
 pub mod Skips
 pub mod Printing

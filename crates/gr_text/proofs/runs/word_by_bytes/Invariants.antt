@@ -1,7 +1,7 @@
 use Rattle.std.proofs.Common.{◌≡◌, ◌+◌, drop, not}
 use Rattle.std.specs.List.{prefix_len}
 use Rattle.gr_text.specs.Tokens.{is_blank}
-use Rattle.gr_text.proofs.runs.word.Given as goal
+use Rattle.gr_text.proofs.runs.word_by_bytes.Given as goal
 
 -- each byte so far was of the run
 abbrev pub invariant-loop-i : goal.invariant-loop-i
