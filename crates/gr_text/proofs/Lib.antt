@@ -5,3 +5,4 @@ pub mod Leads
 pub mod Skips
 pub mod Printing
 pub mod Taken
+pub mod Ends

@@ -119,6 +119,14 @@ past_word p =
       ended = p.ended;
     }
 
+-- the source gave its end, and nothing is ahead
+abbrev pub IsPastEnd : Place → Type 0
+IsPastEnd p = (p.ahead ≡ []) × (p.ended ≡ true)
+
+-- the present token is let go, and all else stays
+abbrev pub no_token : Place → Place
+no_token p = record p { token = [] }
+
 -- the token has ended
 abbrev pub past_token : Place → Place
 past_token p = record p { first = false; last = p.line }

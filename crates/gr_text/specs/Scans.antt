@@ -1,8 +1,8 @@
 -- what a scanner's calls answer
-use Rattle.std.specs.Prelude.{◌≡◌, ℕ, ◌≤◌, ◌<◌, List, [], ◌∷◌, length, Bool, true, false, Option}
+use Rattle.std.specs.Prelude.{◌≡◌, ℕ, ◌≤◌, ◌<◌, List, [], ◌∷◌, length, Bool, true, false, Option, Result, Ok}
 use Rattle.std.specs.Option.{option_map}
 use Rattle.gr_text.specs.Tokens.{Mark, Word, Break, Stop, Cut, Spot, from_line_end}
-use Rattle.gr_text.specs.Places.{Place, taken, known, coming, coming_from, between, inside, limit_of, Leads, BeginsPastSpaces, BeginsBlank}
+use Rattle.gr_text.specs.Places.{Place, taken, known, coming, coming_from, between, inside, limit_of, Leads, BeginsPastSpaces, BeginsBlank, IsPastEnd, no_token}
 use Rattle.gr_io.specs.declared.SourceError.{SourceError}
 use Rattle.gr_io.specs.declared.SourceError.TheVariants.{Fault, OutOfMemory}
 use Rattle.gr_text.specs.declared.scanners.Scanned.{Scanned}
@@ -59,6 +59,16 @@ abbrev pub Advances : Scanned → Place → Place → Type 0
 Advances (Token line first) p q = p.passed < q.passed
 Advances (LineEnd line) p q = p.passed < q.passed
 Advances (End line) p q = p.passed ≤ q.passed
+
+-- where the text's end was answered nothing is ahead, and its line is the present one
+abbrev pub StandsAtEnd : Scanned → Place → Type 0
+StandsAtEnd (Token line first) q = Unit {0}
+StandsAtEnd (LineEnd line) q = Unit {0}
+StandsAtEnd (End line) q = IsPastEnd q × (q.line ≡ line)
+
+-- once the end was met it is answered again, on the same line, and nothing but the token goes
+abbrev pub EndsAgain : Result Scanned ScanError → Place → Place → Type 0
+EndsAgain result p q = IsPastEnd p → (result ≡ Ok (End p.line)) × (q ≡ no_token p)
 
 -- what fails in the source fails in the scanner
 abbrev pub scan_error_of : SourceError → ScanError

@@ -1,8 +1,8 @@
 // The scanner.
-ghost use Rattle.std.specs.Prelude.{◌≡◌, ◌<◌, ◌≤◌, ◌^◌, ◌-◌, ℕ, [], length, true, false, IfOk, IfErr, OnOk, OnErr};
+ghost use Rattle.std.specs.Prelude.{◌≡◌, ◌<◌, ◌≤◌, ◌^◌, ◌-◌, ℕ, [], length, true, false, Ok, IfOk, IfErr, OnOk, OnErr};
 ghost use Rattle.gr_io.specs.Pieces.{Rose};
-ghost use Rattle.gr_text.specs.Places.{BeginsWord, Takes, at_start, between, taken};
-ghost use Rattle.gr_text.specs.Scans.{Fails, Reaches, Spans, Scans, Skips, SkipFails, Advances, Keeps, scan_error_of, Gives};
+ghost use Rattle.gr_text.specs.Places.{BeginsWord, IsPastEnd, Takes, at_start, between, no_token, taken};
+ghost use Rattle.gr_text.specs.Scans.{Fails, Reaches, Spans, Scans, Skips, SkipFails, StandsAtEnd, EndsAgain, Advances, Keeps, scan_error_of, Gives};
 
 use crate::holds::Held;
 use gr_io::{Source, SourceError};
@@ -106,6 +106,9 @@ impl<'a, S: Source> Scanner<'a, S> {
         ensures fault { IfErr result (λ e. e ≡ ScanError.ReadFault →
             Rose (S.faults self.old.source.now) (S.faults self.new.source.now)) }
         ensures grows { S.faults self.old.source.now ≤ S.faults self.new.source.now }
+        ensures again { IsPastEnd self.old.held → (result ≡ Ok false)
+            × (self.new.held ≡ no_token self.old.held)
+            × (self.new.source.now ≡ self.old.source.now) }
     {
         self.held.skip_spaces();
         while self.held.is_empty() {
@@ -179,6 +182,9 @@ impl<'a, S: Source> Scanner<'a, S> {
         ensures fault { IfErr result (λ e. e ≡ ScanError.ReadFault →
             Rose (S.faults self.old.source.now) (S.faults self.new.source.now)) }
         ensures grows { S.faults self.old.source.now ≤ S.faults self.new.source.now }
+        ensures end { IfOk result (λ found. StandsAtEnd found self.new.held) }
+        ensures again { EndsAgain result self.old.held self.new.held }
+        ensures unasked { IsPastEnd self.old.held → self.new.source.now ≡ self.old.source.now }
     {
         match self.reach() {
             Ok(true) => {}
