@@ -3,6 +3,7 @@ pub mod Telling
 pub mod Counted
 pub mod Stepping
 pub mod Reading
+pub mod Passing
 pub mod Written
 pub mod Digits
 pub mod RoundTrip

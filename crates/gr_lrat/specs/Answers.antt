@@ -1,5 +1,5 @@
 -- what the reader of logs answers
-use Rattle.std.specs.Prelude.{◌≡◌, ℕ, ◌≤◌, Bool, false, List, Option, Some, None, Result, Ok, Err}
+use Rattle.std.specs.Prelude.{◌≡◌, ℕ, ◌+◌, ◌≤◌, ◌<◌, Bool, false, List, length, Option, Some, None, Result, Ok, Err}
 use Rattle.std.specs.Option.{option_map}
 use Rattle.gr_text.specs.Places.{Place, known, taken, limit_of}
 use Rattle.gr_text.specs.declared.scanners.ScanError.{ScanError}
@@ -35,6 +35,16 @@ Answers (Err (errors.TooLong n)) last p l last' q r =
 Answers (Err errors.ReadFault) last p l last' q r = EndsSo (taken q) (AtLimit q.last) last p l r ×
     (q.ended ≡ false)
 Answers (Err errors.OutOfMemory) last p l last' q r = Unit {0}
+
+-- how many bytes may still be passed: those ahead, and those that may still be taken
+abbrev pub to_pass : Place → ℕ
+to_pass p = length p.ahead + p.spare
+
+-- a line has bytes, which were passed: fewer may be passed now, so a text has no endless row of lines
+abbrev pub PassesLine : Result (Option Numbered) LineError → Place → Place → Type 0
+PassesLine (Ok (Some x)) p q = to_pass q < to_pass p
+PassesLine (Ok None) p q = to_pass q ≤ to_pass p
+PassesLine (Err failed) p q = Unit {0}
 
 -- the number of bytes that may be looked at is kept, and what is known stays within it
 pub record KeepsLimit (p q : Place) : Type 0 where

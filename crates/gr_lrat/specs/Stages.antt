@@ -5,7 +5,7 @@ use Rattle.gr_text.specs.Tokens.{Mark, Word, Break, Stop, Cut}
 use Rattle.gr_text.specs.Places.{Place, known, taken, coming}
 use Rattle.gr_text.specs.declared.scanners.ScanError.{ScanError}
 use Rattle.gr_text.specs.declared.scanners.ScanError.TheVariants as scans
-use Rattle.gr_lrat.specs.Lines.{Spelling}
+use Rattle.gr_lrat.specs.Lines.{Spelling, Nothing, Spelled, Misspelt, HasNegativeHint}
 use Rattle.gr_lrat.specs.Logs.{LogRead, AtEnd, AtLimit, ends, with_line, log_from}
 use Rattle.gr_lrat.specs.declared.pieces.Ending.{Ending}
 use Rattle.gr_lrat.specs.declared.pieces.Piece.{Piece}
@@ -65,3 +65,10 @@ Passes end p q = (p.passed ≤ q.passed) × (end.last ≡ false → p.passed < q
 abbrev pub PassesPiece : Piece → Place → Place → Type 0
 PassesPiece pieces.Token p q = p.passed < q.passed
 PassesPiece (pieces.End end) p q = Passes end p q
+
+-- a line that spells something has bytes, which were passed
+abbrev pub PassesBytes : Spelling → Place → Place → Type 0
+PassesBytes Nothing p q = p.passed ≤ q.passed
+PassesBytes (Spelled line) p q = p.passed < q.passed
+PassesBytes Misspelt p q = p.passed < q.passed
+PassesBytes HasNegativeHint p q = p.passed < q.passed

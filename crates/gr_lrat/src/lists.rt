@@ -1,6 +1,7 @@
 // Lists of ids in a line of a log.
 ghost use Rattle.std.specs.Prelude.{◌≡◌, ◌≤◌, ◌<◌, ℕ, [], false, List, IfOk, IfErr};
 ghost use Rattle.gr_io.specs.Pieces.{Rose};
+ghost use Rattle.gr_text.specs.Places.{Takes};
 ghost use Rattle.gr_text.specs.Scans.{Keeps};
 ghost use Rattle.gr_lrat.specs.Lines.{Spelling, IdList, NoList, closed_list, ids_from};
 ghost use Rattle.gr_lrat.specs.Stages.{EndsLine, FailsInLine, Passes};
@@ -43,6 +44,8 @@ pub fn read_list<S: Source>(
         FailsInLine (λ ws. made (ids_from false [] ws)) e
         scanner.old.held (S.left scanner.old.source.now)
         scanner.new.held (S.left scanner.new.source.now)) }
+    ensures takes { Takes scanner.old.held (S.left scanner.old.source.now)
+        scanner.new.held (S.left scanner.new.source.now) }
     ensures keeps { Keeps scanner.old.held scanner.new.held }
     ensures fault { IfErr result (λ e. e ≡ ScanError.ReadFault →
         Rose (S.faults scanner.old.source.now) (S.faults scanner.new.source.now)) }
@@ -90,6 +93,8 @@ fn close_list<S: Source>(
         FailsInLine (λ ws. made (closed_list negative ids ws)) e
         scanner.old.held (S.left scanner.old.source.now)
         scanner.new.held (S.left scanner.new.source.now)) }
+    ensures takes { Takes scanner.old.held (S.left scanner.old.source.now)
+        scanner.new.held (S.left scanner.new.source.now) }
     ensures keeps { Keeps scanner.old.held scanner.new.held }
     ensures fault { IfErr result (λ e. e ≡ ScanError.ReadFault →
         Rose (S.faults scanner.old.source.now) (S.faults scanner.new.source.now)) }
@@ -128,6 +133,8 @@ fn no_list<S: Source>(scanner: &mut Scanner<'_, S>) -> Result<Listed, ScanError>
         FailsInLine (λ ws. made (NoList)) e
         scanner.old.held (S.left scanner.old.source.now)
         scanner.new.held (S.left scanner.new.source.now)) }
+    ensures takes { Takes scanner.old.held (S.left scanner.old.source.now)
+        scanner.new.held (S.left scanner.new.source.now) }
     ensures keeps { Keeps scanner.old.held scanner.new.held }
     ensures fault { IfErr result (λ e. e ≡ ScanError.ReadFault →
         Rose (S.faults scanner.old.source.now) (S.faults scanner.new.source.now)) }

@@ -1,6 +1,7 @@
 // What comes next in a line of a log.
 ghost use Rattle.std.specs.Prelude.{◌≡◌, ◌≤◌, ◌<◌, ℕ, List, IfOk, IfErr};
 ghost use Rattle.gr_io.specs.Pieces.{Rose};
+ghost use Rattle.gr_text.specs.Places.{Takes};
 ghost use Rattle.gr_text.specs.Scans.{Keeps};
 ghost use Rattle.gr_lrat.specs.Lines.{Spelling};
 ghost use Rattle.gr_lrat.specs.Stages.{Comes, EndsLine, FailsInLine, Passes, PassesPiece};
@@ -32,6 +33,8 @@ pub fn next_piece<S: Source>(scanner: &mut Scanner<'_, S>) -> Result<Piece, Scan
     ensures err { IfErr result (λ e. (said : List (List ℕ) → Spelling) → FailsInLine said e
         scanner.old.held (S.left scanner.old.source.now)
         scanner.new.held (S.left scanner.new.source.now)) }
+    ensures takes { Takes scanner.old.held (S.left scanner.old.source.now)
+        scanner.new.held (S.left scanner.new.source.now) }
     ensures keeps { Keeps scanner.old.held scanner.new.held }
     ensures fault { IfErr result (λ e. e ≡ ScanError.ReadFault →
         Rose (S.faults scanner.old.source.now) (S.faults scanner.new.source.now)) }
@@ -55,6 +58,8 @@ pub fn skip_rest<S: Source>(scanner: &mut Scanner<'_, S>) -> Result<Ending, Scan
     ensures err { IfErr result (λ e. (spelt : Spelling) → FailsInLine (λ ws. spelt) e
         scanner.old.held (S.left scanner.old.source.now)
         scanner.new.held (S.left scanner.new.source.now)) }
+    ensures takes { Takes scanner.old.held (S.left scanner.old.source.now)
+        scanner.new.held (S.left scanner.new.source.now) }
     ensures keeps { Keeps scanner.old.held scanner.new.held }
     ensures fault { IfErr result (λ e. e ≡ ScanError.ReadFault →
         Rose (S.faults scanner.old.source.now) (S.faults scanner.new.source.now)) }

@@ -2,10 +2,10 @@
 ghost use Rattle.std.specs.Prelude.{◌≡◌, ◌≤◌, ◌<◌, ◌^◌, ◌-◌, ℕ, false, List, IfOk, IfErr};
 ghost use Rattle.std.specs.Option.{option_map};
 ghost use Rattle.gr_io.specs.Pieces.{Rose};
-ghost use Rattle.gr_text.specs.Places.{known, limit_of};
+ghost use Rattle.gr_text.specs.Places.{Takes, known, limit_of};
 ghost use Rattle.gr_lrat.specs.Logs.{log_read};
 ghost use Rattle.gr_lrat.specs.Stages.{log_to_come};
-ghost use Rattle.gr_lrat.specs.Answers.{Answers, KeepsLimit, line_error_of};
+ghost use Rattle.gr_lrat.specs.Answers.{Answers, KeepsLimit, PassesLine, line_error_of};
 
 use crate::statements::{Spelt, read_statement};
 use gr_io::Source;
@@ -86,6 +86,9 @@ impl<'a, S: Source> LineReader<'a, S> {
         ensures answers { Answers result
             self.old.ended self.old.scanner.held (S.left self.old.scanner.source.now)
             self.new.ended self.new.scanner.held (S.left self.new.scanner.source.now) }
+        ensures passes { PassesLine result self.old.scanner.held self.new.scanner.held }
+        ensures takes { Takes self.old.scanner.held (S.left self.old.scanner.source.now)
+            self.new.scanner.held (S.left self.new.scanner.source.now) }
         ensures keeps { KeepsLimit self.old.scanner.held self.new.scanner.held }
         ensures fault { IfErr result (λ e. e ≡ LineError.ReadFault →
             Rose (S.faults self.old.scanner.source.now) (S.faults self.new.scanner.source.now)) }
@@ -95,8 +98,7 @@ impl<'a, S: Source> LineReader<'a, S> {
     }
 }
 
-/// The next line that a scanner comes to, or `None` at the end of the text: `ended` tells that it
-/// was
+/// The next line that a scanner comes to, or `None` at the end of the text: `ended` tells that it was
 /// reached, and is false at first.
 pub fn next_line<S: Source>(
     alloc: Global,
@@ -107,6 +109,9 @@ pub fn next_line<S: Source>(
     ensures answers { Answers result
         ended.old scanner.old.held (S.left scanner.old.source.now)
         ended.new scanner.new.held (S.left scanner.new.source.now) }
+    ensures passes { PassesLine result scanner.old.held scanner.new.held }
+    ensures takes { Takes scanner.old.held (S.left scanner.old.source.now)
+        scanner.new.held (S.left scanner.new.source.now) }
     ensures keeps { KeepsLimit scanner.old.held scanner.new.held }
     ensures fault { IfErr result (λ e. e ≡ LineError.ReadFault →
         Rose (S.faults scanner.old.source.now) (S.faults scanner.new.source.now)) }

@@ -3,9 +3,9 @@ ghost use Rattle.std.specs.Prelude.{◌≡◌, ◌≤◌, ◌<◌, ℕ, [], ◌�
 ghost use Rattle.std.specs.Option.{option_map_or};
 ghost use Rattle.gr_io.specs.Pieces.{Rose};
 ghost use Rattle.gr_text.specs.Scans.{Keeps};
-ghost use Rattle.gr_text.specs.Places.{known, limit_of};
+ghost use Rattle.gr_text.specs.Places.{Takes, known, limit_of};
 ghost use Rattle.gr_lrat.specs.Lines.{Nothing, Misspelt, addition_with, addition_from, deletion_with, deletion_of, ids_from, statement_of, spelling};
-ghost use Rattle.gr_lrat.specs.Stages.{EndsLine, FailsInLine, Passes};
+ghost use Rattle.gr_lrat.specs.Stages.{EndsLine, FailsInLine, Passes, PassesBytes};
 ghost use Rattle.gr_lrat.specs.Statements.{list_of, spelling_of};
 
 use crate::lists::{ReadList, read_list};
@@ -16,9 +16,8 @@ use gr_logic::{Clause, Line};
 use gr_text::{ScanError, Scanner};
 use std::alloc::Global;
 
-/// What a line spells: nothing, where it is blank or a comment; a line of the log; or it is
-/// misspelt, or
-/// well spelt but for a negative hint.
+/// What a line spells: nothing, where it is blank or a comment; a line of the log; or it is misspelt,
+/// or well spelt but for a negative hint.
 #[derive(Debug, Drop)]
 pub enum Spelt {
     Nothing,
@@ -44,11 +43,15 @@ pub fn read_statement<S: Source>(
         statement.end
         scanner.old.held (S.left scanner.old.source.now)
         scanner.new.held (S.left scanner.new.source.now)) }
+    ensures passes { IfOk result (λ statement. PassesBytes (spelling_of statement.spelt)
+        scanner.old.held scanner.new.held) }
     ensures onward { IfOk result (λ statement. Passes statement.end scanner.old.held
         scanner.new.held) }
     ensures err { IfErr result (λ e. FailsInLine (spelling) e
         scanner.old.held (S.left scanner.old.source.now)
         scanner.new.held (S.left scanner.new.source.now)) }
+    ensures takes { Takes scanner.old.held (S.left scanner.old.source.now)
+        scanner.new.held (S.left scanner.new.source.now) }
     ensures keeps { Keeps scanner.old.held scanner.new.held }
     ensures fault { IfErr result (λ e. e ≡ ScanError.ReadFault →
         Rose (S.faults scanner.old.source.now) (S.faults scanner.new.source.now)) }
@@ -80,6 +83,8 @@ fn pass_comment<S: Source>(scanner: &mut Scanner<'_, S>) -> Result<Statement, Sc
     ensures err { IfErr result (λ e. FailsInLine (λ ws. Nothing) e
         scanner.old.held (S.left scanner.old.source.now)
         scanner.new.held (S.left scanner.new.source.now)) }
+    ensures takes { Takes scanner.old.held (S.left scanner.old.source.now)
+        scanner.new.held (S.left scanner.new.source.now) }
     ensures keeps { Keeps scanner.old.held scanner.new.held }
     ensures fault { IfErr result (λ e. e ≡ ScanError.ReadFault →
         Rose (S.faults scanner.old.source.now) (S.faults scanner.new.source.now)) }
@@ -106,6 +111,8 @@ fn misspelt<S: Source>(scanner: &mut Scanner<'_, S>) -> Result<Statement, ScanEr
     ensures err { IfErr result (λ e. FailsInLine (λ ws. Misspelt) e
         scanner.old.held (S.left scanner.old.source.now)
         scanner.new.held (S.left scanner.new.source.now)) }
+    ensures takes { Takes scanner.old.held (S.left scanner.old.source.now)
+        scanner.new.held (S.left scanner.new.source.now) }
     ensures keeps { Keeps scanner.old.held scanner.new.held }
     ensures fault { IfErr result (λ e. e ≡ ScanError.ReadFault →
         Rose (S.faults scanner.old.source.now) (S.faults scanner.new.source.now)) }
@@ -135,6 +142,8 @@ fn read_tokens<S: Source>(
     ensures err { IfErr result (λ e. FailsInLine (statement_of scanner.old.held.token) e
         scanner.old.held (S.left scanner.old.source.now)
         scanner.new.held (S.left scanner.new.source.now)) }
+    ensures takes { Takes scanner.old.held (S.left scanner.old.source.now)
+        scanner.new.held (S.left scanner.new.source.now) }
     ensures keeps { Keeps scanner.old.held scanner.new.held }
     ensures fault { IfErr result (λ e. e ≡ ScanError.ReadFault →
         Rose (S.faults scanner.old.source.now) (S.faults scanner.new.source.now)) }
@@ -173,6 +182,8 @@ fn read_deletion<S: Source>(
         false [] ws) else Misspelt) e
         scanner.old.held (S.left scanner.old.source.now)
         scanner.new.held (S.left scanner.new.source.now)) }
+    ensures takes { Takes scanner.old.held (S.left scanner.old.source.now)
+        scanner.new.held (S.left scanner.new.source.now) }
     ensures keeps { Keeps scanner.old.held scanner.new.held }
     ensures fault { IfErr result (λ e. e ≡ ScanError.ReadFault →
         Rose (S.faults scanner.old.source.now) (S.faults scanner.new.source.now)) }
@@ -219,6 +230,8 @@ fn read_addition<S: Source>(
         (scanner.old.held.token ∷ ws)) id Misspelt) e
         scanner.old.held (S.left scanner.old.source.now)
         scanner.new.held (S.left scanner.new.source.now)) }
+    ensures takes { Takes scanner.old.held (S.left scanner.old.source.now)
+        scanner.new.held (S.left scanner.new.source.now) }
     ensures keeps { Keeps scanner.old.held scanner.new.held }
     ensures fault { IfErr result (λ e. e ≡ ScanError.ReadFault →
         Rose (S.faults scanner.old.source.now) (S.faults scanner.new.source.now)) }
@@ -248,6 +261,8 @@ fn read_literals<S: Source>(
         ∷ ws)) e
         scanner.old.held (S.left scanner.old.source.now)
         scanner.new.held (S.left scanner.new.source.now)) }
+    ensures takes { Takes scanner.old.held (S.left scanner.old.source.now)
+        scanner.new.held (S.left scanner.new.source.now) }
     ensures keeps { Keeps scanner.old.held scanner.new.held }
     ensures fault { IfErr result (λ e. e ≡ ScanError.ReadFault →
         Rose (S.faults scanner.old.source.now) (S.faults scanner.new.source.now)) }
@@ -295,6 +310,8 @@ fn read_hints<S: Source>(
         ws)) e
         scanner.old.held (S.left scanner.old.source.now)
         scanner.new.held (S.left scanner.new.source.now)) }
+    ensures takes { Takes scanner.old.held (S.left scanner.old.source.now)
+        scanner.new.held (S.left scanner.new.source.now) }
     ensures keeps { Keeps scanner.old.held scanner.new.held }
     ensures fault { IfErr result (λ e. e ≡ ScanError.ReadFault →
         Rose (S.faults scanner.old.source.now) (S.faults scanner.new.source.now)) }

@@ -1,6 +1,7 @@
 use Rattle.gr_lrat.specs.Lines.{NoList, closed_list}
 use Rattle.gr_lrat.specs.Statements.{list_of}
 use Rattle.gr_lrat.proofs.Telling.{ends_then, fails_then}
+use Rattle.gr_text.proofs.Taken.{takes-then}
 use Rattle.gr_lrat.proofs.lists.close_list.Goals as goal
 
 pub returns-in-Ok-Token-clause-ok : goal.returns-in-Ok-Token-clause-ok
@@ -35,3 +36,7 @@ pub returns-in-Ok-End-clause-ok : goal.returns-in-Ok-End-clause-ok
 returns-in-Ok-End-clause-ok g c = λ made.
     rw c.closed.ensures (rw c.in-Ok-End.field-0-is at (c.in-Ok-End.ensures.ok (λ ws. made
     (closed_list c.args.negative c.args.ids ws))))
+
+pub returns-in-Ok-Token-clause-takes : goal.returns-in-Ok-Token-clause-takes
+returns-in-Ok-Token-clause-takes g c =
+    takes-then _ _ _ _ _ _ c.next_piece.ensures.takes c.no_list.ensures.takes

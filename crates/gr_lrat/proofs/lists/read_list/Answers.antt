@@ -3,6 +3,7 @@ use Rattle.gr_lrat.specs.Lines.{NoList, is_byte, ids_from, closed_list}
 use Rattle.gr_lrat.specs.Statements.{list_of}
 use Rattle.gr_lrat.proofs.Telling.{onward_here, onward_then, onward_as, onward_ends, onward_fails, ends_then, fails_then}
 use Rattle.gr_lrat.proofs.Stepping.{list_closes, list_takes, list_notes, list_breaks}
+use Rattle.gr_text.proofs.Taken.{takes-then, takes-nothing}
 use Rattle.gr_lrat.proofs.lists.read_list.Goals as goal
 
 pub tokens-init : goal.tokens-init
@@ -16,6 +17,7 @@ tokens-init g c =
       known_more = omega arith;
       limit = refl;
       onward = omega arith;
+      takes = takes-nothing p.held p.held (g.S.Source.left p.source.now) refl;
       grows = omega arith;
     }
 
@@ -125,6 +127,7 @@ tokens-preserved-else-is_err g c =
       known_more = omega (arith, i.known_more, k.grows);
       limit = k.limit ∙ i.limit;
       onward = omega (arith, i.onward, gone);
+      takes = takes-then _ _ _ _ _ _ i.takes c.next_piece.ensures.takes;
       grows = omega (arith, i.grows, c.next_piece.ensures.grows);
     }
 
@@ -157,6 +160,7 @@ tokens-preserved g c =
       known_more = omega (arith, i.known_more, k.grows);
       limit = k.limit ∙ i.limit;
       onward = omega (arith, i.onward, gone);
+      takes = takes-then _ _ _ _ _ _ i.takes c.next_piece.ensures.takes;
       grows = omega (arith, i.grows, c.next_piece.ensures.grows);
     }
 
@@ -212,3 +216,27 @@ returns-in-Other-clause-err g c = λ made.
     fails_then c.no_list.result whole then p.held n.held m.held
     (left p.source.now) (left n.source.now) (left m.source.now) on c.no_list.ensures.keeps.grows
     (c.no_list.ensures.err made)
+
+pub returns-in-Ok-End-clause-takes : goal.returns-in-Ok-End-clause-takes
+returns-in-Ok-End-clause-takes g c =
+    takes-then _ _ _ _ _ _ c.tokens.invariant.takes c.next_piece.ensures.takes
+
+pub returns-in-Err-clause-takes : goal.returns-in-Err-clause-takes
+returns-in-Err-clause-takes g c =
+    takes-then _ _ _ _ _ _ c.tokens.invariant.takes c.next_piece.ensures.takes
+
+pub returns-then-is_err-clause-takes : goal.returns-then-is_err-clause-takes
+returns-then-is_err-clause-takes g c =
+    takes-then _ _ _ _ _ _ c.tokens.invariant.takes c.next_piece.ensures.takes
+
+pub returns-then-is_byte-clause-takes : goal.returns-then-is_byte-clause-takes
+returns-then-is_byte-clause-takes g c =
+    takes-then _ _ _ _ _ _
+    (takes-then _ _ _ _ _ _ c.tokens.invariant.takes c.next_piece.ensures.takes)
+    c.close_list.ensures.takes
+
+pub returns-in-Other-clause-takes : goal.returns-in-Other-clause-takes
+returns-in-Other-clause-takes g c =
+    takes-then _ _ _ _ _ _
+    (takes-then _ _ _ _ _ _ c.tokens.invariant.takes c.next_piece.ensures.takes)
+    c.no_list.ensures.takes

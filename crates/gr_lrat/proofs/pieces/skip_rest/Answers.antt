@@ -1,5 +1,6 @@
 use Rattle.std.proofs.Common.{◌∙◌, arith}
 use Rattle.gr_lrat.proofs.Telling.{onward_then, onward_ends, onward_fails, skip_comes, skip_fails}
+use Rattle.gr_text.proofs.Taken.{takes-then}
 use Rattle.gr_lrat.proofs.pieces.skip_rest.Goals as goal
 
 pub returns-in-Err-clause-err : goal.returns-in-Err-clause-err
@@ -23,6 +24,7 @@ pieces-init g c =
       known_more = k.grows;
       limit = k.limit;
       onward = c.skip_line.ensures.onward;
+      takes = c.skip_line.ensures.takes;
       grows = c.skip_line.ensures.grows;
     }
 
@@ -43,6 +45,7 @@ pieces-preserved g c =
       known_more = omega (arith, i.known_more, k.grows);
       limit = k.limit ∙ i.limit;
       onward = omega (arith, i.onward, gone);
+      takes = takes-then _ _ _ _ _ _ i.takes c.next_piece.ensures.takes;
       grows = omega (arith, i.grows, c.next_piece.ensures.grows);
     }
 
@@ -87,3 +90,11 @@ returns-in-Err-next_piece-clause-keeps g c =
       within = k.within;
       grows = omega (arith, k.grows, i.known_more);
     }
+
+pub returns-in-Ok-End-clause-takes : goal.returns-in-Ok-End-clause-takes
+returns-in-Ok-End-clause-takes g c =
+    takes-then _ _ _ _ _ _ c.pieces.invariant.takes c.next_piece.ensures.takes
+
+pub returns-in-Err-next_piece-clause-takes : goal.returns-in-Err-next_piece-clause-takes
+returns-in-Err-next_piece-clause-takes g c =
+    takes-then _ _ _ _ _ _ c.pieces.invariant.takes c.next_piece.ensures.takes

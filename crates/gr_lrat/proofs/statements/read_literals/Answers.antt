@@ -4,6 +4,7 @@ use Rattle.gr_lrat.specs.Lines.{Misspelt, is_byte, ids_from, addition_from, addi
 use Rattle.gr_lrat.specs.Statements.{spelling_of}
 use Rattle.gr_lrat.proofs.Telling.{onward_here, onward_then, onward_as, onward_ends, onward_fails, ends_then, fails_then}
 use Rattle.gr_lrat.proofs.Stepping.{clause_closes, clause_takes, clause_breaks}
+use Rattle.gr_text.proofs.Taken.{takes-then, takes-nothing}
 use Rattle.gr_lrat.proofs.statements.read_literals.Goals as goal
 
 pub tokens-init : goal.tokens-init
@@ -19,6 +20,7 @@ tokens-init g c =
       within = c.requires;
       limit = refl;
       onward = omega arith;
+      takes = takes-nothing p.held p.held (g.S.Source.left p.source.now) refl;
       grows = omega arith;
     }
 
@@ -140,6 +142,7 @@ tokens-preserved g c =
       within = k.within;
       limit = k.limit ∙ i.limit;
       onward = omega (arith, i.onward, gone);
+      takes = takes-then _ _ _ _ _ _ i.takes c.next_piece.ensures.takes;
       grows = omega (arith, i.grows, c.next_piece.ensures.grows);
     }
 
@@ -192,3 +195,19 @@ returns-in-Err-clause-err g c =
     onward_fails whole then c.in-Err.failed p.held q.held n.held
     (left p.source.now) (left q.source.now) (left n.source.now) here k.grows
     (c.in-Err.ensures.err then)
+
+pub returns-in-Ok-End-clause-takes : goal.returns-in-Ok-End-clause-takes
+returns-in-Ok-End-clause-takes g c =
+    takes-then _ _ _ _ _ _ c.tokens.invariant.takes c.next_piece.ensures.takes
+
+pub returns-in-Err-clause-takes : goal.returns-in-Err-clause-takes
+returns-in-Err-clause-takes g c =
+    takes-then _ _ _ _ _ _ c.tokens.invariant.takes c.next_piece.ensures.takes
+
+pub returns-then-is_byte-clause-takes : goal.returns-then-is_byte-clause-takes
+returns-then-is_byte-clause-takes g c =
+    takes-then _ _ _ _ _ _ c.tokens.invariant.takes c.read_hints.ensures.takes
+
+pub returns-in-None-clause-takes : goal.returns-in-None-clause-takes
+returns-in-None-clause-takes g c =
+    takes-then _ _ _ _ _ _ c.tokens.invariant.takes c.misspelt.ensures.takes

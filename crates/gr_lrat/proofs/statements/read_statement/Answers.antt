@@ -2,7 +2,9 @@ use Rattle.std.proofs.Common.{◌≡◌, ◌∙◌, ◌∷◌, ℕ, List, true, 
 use Rattle.gr_lrat.specs.Lines.{Nothing, begins_comment, spelling, statement_of}
 use Rattle.gr_lrat.specs.Statements.{spelling_of}
 use Rattle.gr_lrat.proofs.Telling.{onward_as, ends_then, fails_then}
+use Rattle.gr_lrat.proofs.Passing.{bytes_then}
 use Rattle.gr_lrat.proofs.Stepping.{comments, states}
+use Rattle.gr_text.proofs.Taken.{takes-then}
 use Rattle.gr_lrat.proofs.statements.read_statement.Goals as goal
 
 pub returns-in-Ok-End-clause-ok : goal.returns-in-Ok-End-clause-ok
@@ -82,3 +84,23 @@ returns-clause-err g c =
     (rw c.in-Ok-Token.field-0-is at (c.in-Ok-Token.ensures.ok whole)) (λ ws. states
     q.held.token ws test))
     c.read_tokens.ensures.keeps.grows c.read_tokens.ensures.err
+
+pub returns-then-begins_comment-clause-takes : goal.returns-then-begins_comment-clause-takes
+returns-then-begins_comment-clause-takes g c =
+    takes-then _ _ _ _ _ _ c.next_piece.ensures.takes c.pass_comment.ensures.takes
+
+pub returns-then-begins_comment-clause-passes : goal.returns-then-begins_comment-clause-passes
+returns-then-begins_comment-clause-passes g c =
+    bytes_then c.pass_comment.result c.args.scanner.now.held c.next_piece.new.scanner.held
+    c.pass_comment.new.scanner.held (rw c.in-Ok-Token.field-0-is at c.in-Ok-Token.ensures.onward)
+    c.pass_comment.ensures.onward
+
+pub returns-clause-takes : goal.returns-clause-takes
+returns-clause-takes g c =
+    takes-then _ _ _ _ _ _ c.next_piece.ensures.takes c.read_tokens.ensures.takes
+
+pub returns-clause-passes : goal.returns-clause-passes
+returns-clause-passes g c =
+    bytes_then c.read_tokens.result c.args.scanner.now.held c.next_piece.new.scanner.held
+    c.read_tokens.new.scanner.held (rw c.in-Ok-Token.field-0-is at c.in-Ok-Token.ensures.onward)
+    c.read_tokens.ensures.onward

@@ -6,6 +6,7 @@ use Rattle.gr_lrat.specs.Statements.{spelling_of}
 use Rattle.gr_lrat.proofs.Counted.{numbered, counted_id}
 use Rattle.gr_lrat.proofs.Telling.{onward_as, ends_then, fails_then}
 use Rattle.gr_lrat.proofs.Stepping.{deletes, adds}
+use Rattle.gr_text.proofs.Taken.{takes-then}
 use Rattle.gr_lrat.proofs.statements.read_tokens.Goals as goal
 
 pub returns-in-Ok-End-clause-ok : goal.returns-in-Ok-End-clause-ok
@@ -106,3 +107,11 @@ returns-else-is_byte-clause-err g c =
     (rw c.in-Ok-Token.field-0-is at (c.in-Ok-Token.ensures.ok whole)) (λ ws. adds word
     q.held.token ws c.id_of_count.result letter id_is))
     c.read_addition.ensures.keeps.grows c.read_addition.ensures.err
+
+pub returns-then-is_byte-clause-takes : goal.returns-then-is_byte-clause-takes
+returns-then-is_byte-clause-takes g c =
+    takes-then _ _ _ _ _ _ c.next_piece.ensures.takes c.read_deletion.ensures.takes
+
+pub returns-else-is_byte-clause-takes : goal.returns-else-is_byte-clause-takes
+returns-else-is_byte-clause-takes g c =
+    takes-then _ _ _ _ _ _ c.next_piece.ensures.takes c.read_addition.ensures.takes
