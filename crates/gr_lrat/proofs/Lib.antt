@@ -2,6 +2,8 @@ pub mod Printed
 pub mod Telling
 pub mod Counted
 pub mod Stepping
+pub mod ListSteps
+pub mod AdditionSteps
 pub mod Reading
 pub mod Passing
 pub mod Written

@@ -1,5 +1,5 @@
 -- how the log to come is read on, piece by piece
-use Rattle.std.proofs.Common.{◌≡◌, ◌∙◌, ℕ, ◌≤◌, Bool, true, false, List, [], ◌∷◌, refl, sym, ap, arith, Option, Some, None, Result, Ok, Err, IfOk, IfErr}
+use Rattle.std.proofs.Common.{◌≡◌, ◌∙◌, ℕ, ◌≤◌, Bool, true, false, List, [], ◌∷◌, refl, sym, ap, arith, Option, Some, None, Result, Ok, Err}
 use Rattle.std.specs.Option.{option_map}
 use Rattle.gr_text.specs.Tokens.{Mark, Word, Break, Stop, Cut, from_line_end}
 use Rattle.gr_text.specs.Places.{Place, known, taken, coming, between}
@@ -8,7 +8,7 @@ use Rattle.gr_text.specs.declared.scanners.ScanError.{ScanError}
 use Rattle.gr_text.specs.declared.scanners.ScanError.TheVariants as scans
 use Rattle.gr_lrat.specs.Lines.{Spelling}
 use Rattle.gr_lrat.specs.Logs.{AtEnd, AtLimit, ends, with_line, log_from}
-use Rattle.gr_lrat.specs.Stages.{log_with, in_line, Onward, EndsLine, FailsInLine}
+use Rattle.gr_lrat.specs.Stages.{log_with, in_line, Onward, EndsLine, FailsInLine, Tells}
 use Rattle.gr_lrat.specs.declared.pieces.Ending.{Ending}
 
 -- a map of a map is one map
@@ -159,20 +159,18 @@ skip_fails (scans.TooLong line) x p q l r f = (skip_cut line (taken q) x p l r f
 skip_fails scans.ReadFault x p q l r f = (skip_cut q.last (taken q) x p l r f.0, f.1)
 skip_fails scans.OutOfMemory x p q l r f = tt
 
--- a place, and then what an answer says of the rest of the line
-pub ends_then : {T : Type 0} (a : Result T ScanError) (spelt : T → Spelling) (end : T → Ending)
+-- a place, and then what an answer tells of the rest of the line
+pub tells_then : {T : Type 0} (a : Result T ScanError) (spelt : T → Spelling) (end : T → Ending)
     (s t : List (List ℕ) → Spelling) (p q n : Place) (l r k : Option (List ℕ)) →
-    Onward s p l t q r → known q ≤ known n
-    → IfOk a (λ x. EndsLine t (spelt x) (end x) q r n k) →
-    IfOk a (λ x. EndsLine s (spelt x) (end x) p l n k)
-ends_then (Ok x) spelt end s t p q n l r k a grows b = onward_ends s t (spelt x) (end x) p q n l r k
+    Onward s p l t q r → known q ≤ known n → Tells t spelt end a q r n k → Tells s spelt end a p l n k
+tells_then (Ok x) spelt end s t p q n l r k a grows b = onward_ends s t (spelt x) (end x) p q n l r k
     a grows b
-ends_then (Err e) spelt end s t p q n l r k a grows b = tt
+tells_then (Err e) spelt end s t p q n l r k a grows b = onward_fails s t e p q n l r k a grows b
 
--- a place, and then why the rest of the line was not read
-pub fails_then : {T : Type 0} (a : Result T ScanError) (s t : List (List ℕ) →
-    Spelling) (p q n : Place)
-    (l r k : Option (List ℕ)) → Onward s p l t q r → known q ≤ known n
-    → IfErr a (λ e. FailsInLine t e q r n k) → IfErr a (λ e. FailsInLine s e p l n k)
-fails_then (Ok x) s t p q n l r k a grows b = tt
-fails_then (Err e) s t p q n l r k a grows b = onward_fails s t e p q n l r k a grows b
+-- a place, then a token, and what the tokens behind it spell
+pub onward_token : (s t u : List (List ℕ) → Spelling) (p q n : Place) (l r k : Option (List ℕ)) →
+    Onward s p l t q r → Onward t q r (λ ws. t (n.token ∷ ws)) n k →
+    ((ws : List (List ℕ)) → t (n.token ∷ ws) ≡ u ws) → Onward s p l u n k
+onward_token s t u p q n l r k a b e =
+    let behind = λ (ws : List (List ℕ)). t (n.token ∷ ws) in
+    onward_as s behind u p n l k (onward_then s t behind p q n l r k a b) e

@@ -1,5 +1,5 @@
 -- a proof log as it is read, token by token
-use Rattle.std.specs.Prelude.{◌≡◌, ℕ, ◌≤◌, ◌<◌, Bool, false, if◌then◌else◌, List, [], ◌∷◌, Option}
+use Rattle.std.specs.Prelude.{◌≡◌, ℕ, ◌≤◌, ◌<◌, Bool, false, if◌then◌else◌, List, [], ◌∷◌, Option, Result, Ok, Err}
 use Rattle.std.specs.Option.{option_map}
 use Rattle.gr_text.specs.Tokens.{Mark, Word, Break, Stop, Cut}
 use Rattle.gr_text.specs.Places.{Place, known, taken, coming}
@@ -50,6 +50,13 @@ FailsInLine said (scans.TooLong line) p l q r =
 FailsInLine said scans.ReadFault p l q r =
     (in_line (taken q) said p l ≡ option_map (λ _. ends (AtLimit q.last)) r) × (q.ended ≡ false)
 FailsInLine said scans.OutOfMemory p l q r = Unit {0}
+
+-- what is answered where a line is read to its end, of which the tokens to come spell what is said: what they
+-- spelt and where the line ended, or why it was not read
+abbrev pub Tells : {T : Type 0} → (List (List ℕ) → Spelling) → (T → Spelling) → (T → Ending) →
+    Result T ScanError → Place → Option (List ℕ) → Place → Option (List ℕ) → Type 0
+Tells said spelt end (Ok x) p l q r = EndsLine said (spelt x) (end x) p l q r
+Tells said spelt end (Err failed) p l q r = FailsInLine said failed p l q r
 
 -- what comes next in a line: a token, or its end
 abbrev pub Comes : (List (List ℕ) → Spelling) → Piece → Place → Option (List ℕ) → Place →

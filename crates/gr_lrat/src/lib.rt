@@ -1,6 +1,7 @@
 //! Proof logs in text LRAT (Cruz-Filipe et al., CADE 2017): their text, its writer and its reader.
 #![tactic(auto)]
 
+mod additions;
 pub mod laws;
 mod lists;
 mod numerals;

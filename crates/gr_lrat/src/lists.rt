@@ -4,8 +4,8 @@ ghost use Rattle.gr_io.specs.Pieces.{Rose};
 ghost use Rattle.gr_text.specs.Places.{Takes};
 ghost use Rattle.gr_text.specs.Scans.{Keeps};
 ghost use Rattle.gr_lrat.specs.Lines.{Spelling, IdList, NoList, closed_list, ids_from};
-ghost use Rattle.gr_lrat.specs.Stages.{EndsLine, FailsInLine, Passes};
-ghost use Rattle.gr_lrat.specs.Statements.{list_of};
+ghost use Rattle.gr_lrat.specs.Stages.{Passes};
+ghost use Rattle.gr_lrat.specs.Statements.{TellsList, list_of};
 
 use crate::numerals::{self, ListToken};
 use crate::pieces::{Ending, Piece, next_piece, skip_rest};
@@ -35,15 +35,10 @@ pub fn read_list<S: Source>(
     scanner: &mut Scanner<'_, S>,
 ) -> Result<Listed, ScanError>
     ensures same { scanner.new.source.ghost_name ≡ scanner.old.source.ghost_name }
-    ensures ok { (made : IdList → Spelling) → IfOk result (λ list.
-        EndsLine (λ ws. made (ids_from false [] ws)) (made (list_of list.list)) list.end
+    ensures tells { (made : IdList → Spelling) → TellsList made (λ ws. ids_from false [] ws) result
         scanner.old.held (S.left scanner.old.source.now)
-        scanner.new.held (S.left scanner.new.source.now)) }
+        scanner.new.held (S.left scanner.new.source.now) }
     ensures onward { IfOk result (λ list. Passes list.end scanner.old.held scanner.new.held) }
-    ensures err { (made : IdList → Spelling) → IfErr result (λ e.
-        FailsInLine (λ ws. made (ids_from false [] ws)) e
-        scanner.old.held (S.left scanner.old.source.now)
-        scanner.new.held (S.left scanner.new.source.now)) }
     ensures takes { Takes scanner.old.held (S.left scanner.old.source.now)
         scanner.new.held (S.left scanner.new.source.now) }
     ensures keeps { Keeps scanner.old.held scanner.new.held }
@@ -84,15 +79,10 @@ fn close_list<S: Source>(
     negative: bool,
 ) -> Result<Listed, ScanError>
     ensures same { scanner.new.source.ghost_name ≡ scanner.old.source.ghost_name }
-    ensures ok { (made : IdList → Spelling) → IfOk result (λ list.
-        EndsLine (λ ws. made (closed_list negative ids ws)) (made (list_of list.list)) list.end
+    ensures tells { (made : IdList → Spelling) → TellsList made (λ ws. closed_list negative ids ws) result
         scanner.old.held (S.left scanner.old.source.now)
-        scanner.new.held (S.left scanner.new.source.now)) }
+        scanner.new.held (S.left scanner.new.source.now) }
     ensures onward { IfOk result (λ list. Passes list.end scanner.old.held scanner.new.held) }
-    ensures err { (made : IdList → Spelling) → IfErr result (λ e.
-        FailsInLine (λ ws. made (closed_list negative ids ws)) e
-        scanner.old.held (S.left scanner.old.source.now)
-        scanner.new.held (S.left scanner.new.source.now)) }
     ensures takes { Takes scanner.old.held (S.left scanner.old.source.now)
         scanner.new.held (S.left scanner.new.source.now) }
     ensures keeps { Keeps scanner.old.held scanner.new.held }
@@ -124,15 +114,10 @@ fn closed(ids: Ids, negative: bool) -> ReadList
 /// Passes the rest of a line that has no list.
 fn no_list<S: Source>(scanner: &mut Scanner<'_, S>) -> Result<Listed, ScanError>
     ensures same { scanner.new.source.ghost_name ≡ scanner.old.source.ghost_name }
-    ensures ok { (made : IdList → Spelling) → IfOk result (λ list.
-        EndsLine (λ ws. made (NoList)) (made (list_of list.list)) list.end
+    ensures tells { (made : IdList → Spelling) → TellsList made (λ ws. NoList) result
         scanner.old.held (S.left scanner.old.source.now)
-        scanner.new.held (S.left scanner.new.source.now)) }
+        scanner.new.held (S.left scanner.new.source.now) }
     ensures onward { IfOk result (λ list. Passes list.end scanner.old.held scanner.new.held) }
-    ensures err { (made : IdList → Spelling) → IfErr result (λ e.
-        FailsInLine (λ ws. made (NoList)) e
-        scanner.old.held (S.left scanner.old.source.now)
-        scanner.new.held (S.left scanner.new.source.now)) }
     ensures takes { Takes scanner.old.held (S.left scanner.old.source.now)
         scanner.new.held (S.left scanner.new.source.now) }
     ensures keeps { Keeps scanner.old.held scanner.new.held }

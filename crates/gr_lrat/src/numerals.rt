@@ -45,6 +45,10 @@ fn next_size(size: u64, digit: u8) -> u64
     requires small { size ≤ CAP }
     ensures { result ≡ min (10 * size + (digit - 48)) CAP }
 {
+    // Below this only the sum is needed, which is so for all numbers of a real log.
+    if size < ROOM {
+        return size * 10 + u64::from(digit - b'0');
+    }
     if size > ROOM {
         return CAP;
     }

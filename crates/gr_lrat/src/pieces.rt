@@ -4,7 +4,7 @@ ghost use Rattle.gr_io.specs.Pieces.{Rose};
 ghost use Rattle.gr_text.specs.Places.{Takes};
 ghost use Rattle.gr_text.specs.Scans.{Keeps};
 ghost use Rattle.gr_lrat.specs.Lines.{Spelling};
-ghost use Rattle.gr_lrat.specs.Stages.{Comes, EndsLine, FailsInLine, Passes, PassesPiece};
+ghost use Rattle.gr_lrat.specs.Stages.{Comes, FailsInLine, Passes, PassesPiece, Tells};
 
 use gr_io::Source;
 use gr_text::{ScanError, Scanned, Scanner};
@@ -51,13 +51,10 @@ pub fn next_piece<S: Source>(scanner: &mut Scanner<'_, S>) -> Result<Piece, Scan
 /// Passes what is left of the line.
 pub fn skip_rest<S: Source>(scanner: &mut Scanner<'_, S>) -> Result<Ending, ScanError>
     ensures same { scanner.new.source.ghost_name ≡ scanner.old.source.ghost_name }
-    ensures ok { IfOk result (λ end. (spelt : Spelling) → EndsLine (λ ws. spelt) spelt end
+    ensures tells { (spelt : Spelling) → Tells (λ ws. spelt) (λ end. spelt) (λ end. end) result
         scanner.old.held (S.left scanner.old.source.now)
-        scanner.new.held (S.left scanner.new.source.now)) }
+        scanner.new.held (S.left scanner.new.source.now) }
     ensures onward { IfOk result (λ end. Passes end scanner.old.held scanner.new.held) }
-    ensures err { IfErr result (λ e. (spelt : Spelling) → FailsInLine (λ ws. spelt) e
-        scanner.old.held (S.left scanner.old.source.now)
-        scanner.new.held (S.left scanner.new.source.now)) }
     ensures takes { Takes scanner.old.held (S.left scanner.old.source.now)
         scanner.new.held (S.left scanner.new.source.now) }
     ensures keeps { Keeps scanner.old.held scanner.new.held }

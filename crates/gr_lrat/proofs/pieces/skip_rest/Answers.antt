@@ -3,8 +3,8 @@ use Rattle.gr_lrat.proofs.Telling.{onward_then, onward_ends, onward_fails, skip_
 use Rattle.gr_text.proofs.Taken.{takes-then}
 use Rattle.gr_lrat.proofs.pieces.skip_rest.Goals as goal
 
-pub returns-in-Err-clause-err : goal.returns-in-Err-clause-err
-returns-in-Err-clause-err g c = λ x.
+pub returns-in-Err-clause-tells : goal.returns-in-Err-clause-tells
+returns-in-Err-clause-tells g c = λ x.
     let left = g.S.Source.left in
     let p = c.args.scanner.now in
     let q = c.skip_line.new.self in
@@ -49,8 +49,8 @@ pieces-preserved g c =
       grows = omega (arith, i.grows, c.next_piece.ensures.grows);
     }
 
-pub returns-in-Ok-End-clause-ok : goal.returns-in-Ok-End-clause-ok
-returns-in-Ok-End-clause-ok g c = λ x.
+pub returns-in-Ok-End-clause-tells : goal.returns-in-Ok-End-clause-tells
+returns-in-Ok-End-clause-tells g c = λ x.
     let left = g.S.Source.left in
     let p = c.args.scanner.now in
     let q = c.pieces.scanner in
@@ -70,8 +70,8 @@ returns-in-Ok-End-clause-keeps g c =
       grows = omega (arith, k.grows, i.known_more);
     }
 
-pub returns-in-Err-next_piece-clause-err : goal.returns-in-Err-next_piece-clause-err
-returns-in-Err-next_piece-clause-err g c = λ x.
+pub returns-in-Err-next_piece-clause-tells : goal.returns-in-Err-next_piece-clause-tells
+returns-in-Err-next_piece-clause-tells g c = λ x.
     let left = g.S.Source.left in
     let p = c.args.scanner.now in
     let q = c.pieces.scanner in

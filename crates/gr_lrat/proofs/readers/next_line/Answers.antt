@@ -30,7 +30,7 @@ lines-preserved g c =
       same = c.read_statement.ensures.same ∙ i.same;
       blanks = blank_comes c.in-Ok.statement.end c.args.ended.now p.held q.held n.held
           (left p.source.now) (left q.source.now) (left n.source.now) c.lines.ended
-          i.blanks c.lines-test.true k.grows (rw c.in-Nothing.is at c.in-Ok.ensures.ok);
+          i.blanks c.lines-test.true k.grows (rw c.in-Nothing.is at c.in-Ok.ensures.tells);
       limit = k.limit ∙ i.limit;
       within = λ _. k.within;
       onward = omega (arith, i.onward, passed);
@@ -48,7 +48,7 @@ returns-in-Err-clause-answers g c =
     n.held
     (left p.source.now) (left q.source.now) (left n.source.now) c.lines.ended
     c.lines.invariant.blanks c.lines-test.true c.read_statement.ensures.keeps.grows
-    c.in-Err.ensures.err)
+    c.in-Err.ensures.tells)
 
 pub returns-in-Spelled-clause-answers : goal.returns-in-Spelled-clause-answers
 returns-in-Spelled-clause-answers g c =
@@ -60,7 +60,7 @@ returns-in-Spelled-clause-answers g c =
     c.args.ended.now p.held q.held n.held
     (left p.source.now) (left q.source.now) (left n.source.now) c.lines.ended
     c.lines.invariant.blanks c.lines-test.true c.read_statement.ensures.keeps.grows
-    (rw c.in-Spelled.is at c.in-Ok.ensures.ok))
+    (rw c.in-Spelled.is at c.in-Ok.ensures.tells))
 
 pub returns-in-Misspelt-clause-answers : goal.returns-in-Misspelt-clause-answers
 returns-in-Misspelt-clause-answers g c =
@@ -71,7 +71,7 @@ returns-in-Misspelt-clause-answers g c =
     bad_comes c.in-Ok.statement.end c.args.ended.now p.held q.held n.held
     (left p.source.now) (left q.source.now) (left n.source.now) c.lines.ended
     c.lines.invariant.blanks c.lines-test.true c.read_statement.ensures.keeps.grows
-    (rw c.in-Misspelt.is at c.in-Ok.ensures.ok)
+    (rw c.in-Misspelt.is at c.in-Ok.ensures.tells)
 
 pub returns-in-HasNegativeHint-clause-answers : goal.returns-in-HasNegativeHint-clause-answers
 returns-in-HasNegativeHint-clause-answers g c =
@@ -82,7 +82,7 @@ returns-in-HasNegativeHint-clause-answers g c =
     rat_comes c.in-Ok.statement.end c.args.ended.now p.held q.held n.held
     (left p.source.now) (left q.source.now) (left n.source.now) c.lines.ended
     c.lines.invariant.blanks c.lines-test.true c.read_statement.ensures.keeps.grows
-    (rw c.in-HasNegativeHint.is at c.in-Ok.ensures.ok)
+    (rw c.in-HasNegativeHint.is at c.in-Ok.ensures.tells)
 
 pub returns-in-Err-clause-takes : goal.returns-in-Err-clause-takes
 returns-in-Err-clause-takes g c =

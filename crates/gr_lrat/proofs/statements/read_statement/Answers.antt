@@ -1,18 +1,18 @@
 use Rattle.std.proofs.Common.{◌≡◌, ◌∙◌, ◌∷◌, ℕ, List, true, false, sym}
 use Rattle.gr_lrat.specs.Lines.{Nothing, begins_comment, spelling, statement_of}
 use Rattle.gr_lrat.specs.Statements.{spelling_of}
-use Rattle.gr_lrat.proofs.Telling.{onward_as, ends_then, fails_then}
+use Rattle.gr_lrat.proofs.Telling.{onward_as, tells_then}
 use Rattle.gr_lrat.proofs.Passing.{bytes_then}
 use Rattle.gr_lrat.proofs.Stepping.{comments, states}
 use Rattle.gr_text.proofs.Taken.{takes-then}
 use Rattle.gr_lrat.proofs.statements.read_statement.Goals as goal
 
-pub returns-in-Ok-End-clause-ok : goal.returns-in-Ok-End-clause-ok
-returns-in-Ok-End-clause-ok g c = rw c.in-Ok-End.field-0-is at (c.in-Ok-End.ensures.ok (λ ws.
+pub returns-in-Ok-End-clause-tells : goal.returns-in-Ok-End-clause-tells
+returns-in-Ok-End-clause-tells g c = rw c.in-Ok-End.field-0-is at (c.in-Ok-End.ensures.ok (λ ws.
     spelling ws))
 
-pub returns-then-begins_comment-clause-ok : goal.returns-then-begins_comment-clause-ok
-returns-then-begins_comment-clause-ok g c =
+pub returns-then-begins_comment-clause-tells : goal.returns-then-begins_comment-clause-tells
+returns-then-begins_comment-clause-tells g c =
     let left = g.S.Source.left in
     let p = c.args.scanner.now in
     let q = c.next_piece.new.scanner in
@@ -22,34 +22,16 @@ returns-then-begins_comment-clause-ok g c =
     let then = λ (ws : List (List ℕ)). Nothing in
     let test : begins_comment q.held.token ≡ true = rw c.token.ensures at (sym
     c.begins_comment.ensures ∙ c.if-begins_comment.true) in
-    ends_then c.pass_comment.result (λ read. spelling_of read.spelt) (λ read. read.end) whole then
+    tells_then c.pass_comment.result (λ read. spelling_of read.spelt) (λ read. read.end) whole then
     p.held q.held m.held
     (left p.source.now) (left q.source.now) (left m.source.now)
     (onward_as whole behind then p.held q.held (left p.source.now) (left q.source.now)
     (rw c.in-Ok-Token.field-0-is at (c.in-Ok-Token.ensures.ok whole)) (λ ws. comments
     q.held.token ws test))
-    c.pass_comment.ensures.keeps.grows c.pass_comment.ensures.ok
+    c.pass_comment.ensures.keeps.grows c.pass_comment.ensures.tells
 
-pub returns-then-begins_comment-clause-err : goal.returns-then-begins_comment-clause-err
-returns-then-begins_comment-clause-err g c =
-    let left = g.S.Source.left in
-    let p = c.args.scanner.now in
-    let q = c.next_piece.new.scanner in
-    let m = c.pass_comment.new.scanner in
-    let whole = λ (ws : List (List ℕ)). spelling ws in
-    let behind = λ (ws : List (List ℕ)). spelling (q.held.token ∷ ws) in
-    let then = λ (ws : List (List ℕ)). Nothing in
-    let test : begins_comment q.held.token ≡ true = rw c.token.ensures at (sym
-    c.begins_comment.ensures ∙ c.if-begins_comment.true) in
-    fails_then c.pass_comment.result whole then p.held q.held m.held
-    (left p.source.now) (left q.source.now) (left m.source.now)
-    (onward_as whole behind then p.held q.held (left p.source.now) (left q.source.now)
-    (rw c.in-Ok-Token.field-0-is at (c.in-Ok-Token.ensures.ok whole)) (λ ws. comments
-    q.held.token ws test))
-    c.pass_comment.ensures.keeps.grows c.pass_comment.ensures.err
-
-pub returns-clause-ok : goal.returns-clause-ok
-returns-clause-ok g c =
+pub returns-clause-tells : goal.returns-clause-tells
+returns-clause-tells g c =
     let left = g.S.Source.left in
     let p = c.args.scanner.now in
     let q = c.next_piece.new.scanner in
@@ -59,31 +41,13 @@ returns-clause-ok g c =
     let then = λ (ws : List (List ℕ)). statement_of q.held.token ws in
     let test : begins_comment q.held.token ≡ false = rw c.token.ensures at (sym
     c.begins_comment.ensures ∙ c.if-begins_comment.false) in
-    ends_then c.read_tokens.result (λ read. spelling_of read.spelt) (λ read. read.end) whole then
+    tells_then c.read_tokens.result (λ read. spelling_of read.spelt) (λ read. read.end) whole then
     p.held q.held m.held
     (left p.source.now) (left q.source.now) (left m.source.now)
     (onward_as whole behind then p.held q.held (left p.source.now) (left q.source.now)
     (rw c.in-Ok-Token.field-0-is at (c.in-Ok-Token.ensures.ok whole)) (λ ws. states
     q.held.token ws test))
-    c.read_tokens.ensures.keeps.grows c.read_tokens.ensures.ok
-
-pub returns-clause-err : goal.returns-clause-err
-returns-clause-err g c =
-    let left = g.S.Source.left in
-    let p = c.args.scanner.now in
-    let q = c.next_piece.new.scanner in
-    let m = c.read_tokens.new.scanner in
-    let whole = λ (ws : List (List ℕ)). spelling ws in
-    let behind = λ (ws : List (List ℕ)). spelling (q.held.token ∷ ws) in
-    let then = λ (ws : List (List ℕ)). statement_of q.held.token ws in
-    let test : begins_comment q.held.token ≡ false = rw c.token.ensures at (sym
-    c.begins_comment.ensures ∙ c.if-begins_comment.false) in
-    fails_then c.read_tokens.result whole then p.held q.held m.held
-    (left p.source.now) (left q.source.now) (left m.source.now)
-    (onward_as whole behind then p.held q.held (left p.source.now) (left q.source.now)
-    (rw c.in-Ok-Token.field-0-is at (c.in-Ok-Token.ensures.ok whole)) (λ ws. states
-    q.held.token ws test))
-    c.read_tokens.ensures.keeps.grows c.read_tokens.ensures.err
+    c.read_tokens.ensures.keeps.grows c.read_tokens.ensures.tells
 
 pub returns-then-begins_comment-clause-takes : goal.returns-then-begins_comment-clause-takes
 returns-then-begins_comment-clause-takes g c =

@@ -4,18 +4,18 @@ use Rattle.gr_lrat.specs.Numerals.{is_count, id_of}
 use Rattle.gr_lrat.specs.Lines.{Misspelt, is_byte, statement_of, deletion_with, ids_from, addition_from}
 use Rattle.gr_lrat.specs.Statements.{spelling_of}
 use Rattle.gr_lrat.proofs.Counted.{numbered, counted_id}
-use Rattle.gr_lrat.proofs.Telling.{onward_as, ends_then, fails_then}
+use Rattle.gr_lrat.proofs.Telling.{onward_as, tells_then}
 use Rattle.gr_lrat.proofs.Stepping.{deletes, adds}
 use Rattle.gr_text.proofs.Taken.{takes-then}
 use Rattle.gr_lrat.proofs.statements.read_tokens.Goals as goal
 
-pub returns-in-Ok-End-clause-ok : goal.returns-in-Ok-End-clause-ok
-returns-in-Ok-End-clause-ok g c =
+pub returns-in-Ok-End-clause-tells : goal.returns-in-Ok-End-clause-tells
+returns-in-Ok-End-clause-tells g c =
     rw c.in-Ok-End.field-0-is at (c.in-Ok-End.ensures.ok (λ ws. statement_of
     c.args.scanner.now.held.token ws))
 
-pub returns-then-is_byte-clause-ok : goal.returns-then-is_byte-clause-ok
-returns-then-is_byte-clause-ok g c =
+pub returns-then-is_byte-clause-tells : goal.returns-then-is_byte-clause-tells
+returns-then-is_byte-clause-tells g c =
     let left = g.S.Source.left in
     let p = c.args.scanner.now in
     let q = c.next_piece.new.scanner in
@@ -30,39 +30,16 @@ returns-then-is_byte-clause-ok g c =
     let first = rw c.token.ensures at c.count-first.ensures in
     let counts : c.is_some.result ≡ is_count word = c.is_some.ensures
     ∙ numbered word c.count-first.result first in
-    ends_then c.read_deletion.result (λ read. spelling_of read.spelt) (λ read. read.end) whole later
+    tells_then c.read_deletion.result (λ read. spelling_of read.spelt) (λ read. read.end) whole later
     p.held q.held m.held
     (left p.source.now) (left q.source.now) (left m.source.now)
     (onward_as whole behind later p.held q.held (left p.source.now) (left q.source.now)
     (rw c.in-Ok-Token.field-0-is at (c.in-Ok-Token.ensures.ok whole)) (λ ws. deletes word
     q.held.token ws c.is_some.result letter counts))
-    c.read_deletion.ensures.keeps.grows c.read_deletion.ensures.ok
+    c.read_deletion.ensures.keeps.grows c.read_deletion.ensures.tells
 
-pub returns-then-is_byte-clause-err : goal.returns-then-is_byte-clause-err
-returns-then-is_byte-clause-err g c =
-    let left = g.S.Source.left in
-    let p = c.args.scanner.now in
-    let q = c.next_piece.new.scanner in
-    let m = c.read_deletion.new.scanner in
-    let word = p.held.token in
-    let whole = λ (ws : List (List ℕ)). statement_of word ws in
-    let behind = λ (ws : List (List ℕ)). statement_of word (q.held.token ∷ ws) in
-    let later = λ (ws : List (List ℕ)). if c.is_some.result then deletion_with (ids_from false []
-    ws) else Misspelt in
-    let letter : is_byte 100 q.held.token ≡ true = rw c.token-2.ensures at (sym c.is_byte.ensures
-    ∙ c.if-is_byte.true) in
-    let first = rw c.token.ensures at c.count-first.ensures in
-    let counts : c.is_some.result ≡ is_count word = c.is_some.ensures
-    ∙ numbered word c.count-first.result first in
-    fails_then c.read_deletion.result whole later p.held q.held m.held
-    (left p.source.now) (left q.source.now) (left m.source.now)
-    (onward_as whole behind later p.held q.held (left p.source.now) (left q.source.now)
-    (rw c.in-Ok-Token.field-0-is at (c.in-Ok-Token.ensures.ok whole)) (λ ws. deletes word
-    q.held.token ws c.is_some.result letter counts))
-    c.read_deletion.ensures.keeps.grows c.read_deletion.ensures.err
-
-pub returns-else-is_byte-clause-ok : goal.returns-else-is_byte-clause-ok
-returns-else-is_byte-clause-ok g c =
+pub returns-else-is_byte-clause-tells : goal.returns-else-is_byte-clause-tells
+returns-else-is_byte-clause-tells g c =
     let left = g.S.Source.left in
     let p = c.args.scanner.now in
     let q = c.next_piece.new.scanner in
@@ -77,36 +54,13 @@ returns-else-is_byte-clause-ok g c =
     let first = rw c.token.ensures at c.count-first.ensures in
     let id_is : c.id_of_count.result ≡ id_of word = rw first at c.id_of_count.ensures
     ∙ counted_id word in
-    ends_then c.read_addition.result (λ read. spelling_of read.spelt) (λ read. read.end) whole later
+    tells_then c.read_addition.result (λ read. spelling_of read.spelt) (λ read. read.end) whole later
     p.held q.held m.held
     (left p.source.now) (left q.source.now) (left m.source.now)
     (onward_as whole behind later p.held q.held (left p.source.now) (left q.source.now)
     (rw c.in-Ok-Token.field-0-is at (c.in-Ok-Token.ensures.ok whole)) (λ ws. adds word
     q.held.token ws c.id_of_count.result letter id_is))
-    c.read_addition.ensures.keeps.grows c.read_addition.ensures.ok
-
-pub returns-else-is_byte-clause-err : goal.returns-else-is_byte-clause-err
-returns-else-is_byte-clause-err g c =
-    let left = g.S.Source.left in
-    let p = c.args.scanner.now in
-    let q = c.next_piece.new.scanner in
-    let m = c.read_addition.new.scanner in
-    let word = p.held.token in
-    let whole = λ (ws : List (List ℕ)). statement_of word ws in
-    let behind = λ (ws : List (List ℕ)). statement_of word (q.held.token ∷ ws) in
-    let later = λ (ws : List (List ℕ)). option_map_or (λ i. addition_from i [] (q.held.token ∷ ws))
-    c.id_of_count.result Misspelt in
-    let letter : is_byte 100 q.held.token ≡ false = rw c.token-2.ensures at (sym c.is_byte.ensures ∙
-    c.if-is_byte.false) in
-    let first = rw c.token.ensures at c.count-first.ensures in
-    let id_is : c.id_of_count.result ≡ id_of word = rw first at c.id_of_count.ensures
-    ∙ counted_id word in
-    fails_then c.read_addition.result whole later p.held q.held m.held
-    (left p.source.now) (left q.source.now) (left m.source.now)
-    (onward_as whole behind later p.held q.held (left p.source.now) (left q.source.now)
-    (rw c.in-Ok-Token.field-0-is at (c.in-Ok-Token.ensures.ok whole)) (λ ws. adds word
-    q.held.token ws c.id_of_count.result letter id_is))
-    c.read_addition.ensures.keeps.grows c.read_addition.ensures.err
+    c.read_addition.ensures.keeps.grows c.read_addition.ensures.tells
 
 pub returns-then-is_byte-clause-takes : goal.returns-then-is_byte-clause-takes
 returns-then-is_byte-clause-takes g c =

@@ -2,7 +2,7 @@ use Rattle.std.proofs.Common.{◌≡◌, ◌≤◌, ◌+◌, ◌∷◌, [], leng
 use Rattle.gr_text.specs.Places.{Takes, known, limit_of}
 use Rattle.gr_lrat.specs.Lines.{addition_from}
 use Rattle.gr_lrat.specs.Stages.{Onward}
-use Rattle.gr_lrat.proofs.statements.read_literals.Given as goal
+use Rattle.gr_lrat.proofs.additions.read_literals.Given as goal
 
 -- the literals so far, the present token and the tokens to come make the addition
 abbrev pub invariant-tokens : goal.invariant-tokens

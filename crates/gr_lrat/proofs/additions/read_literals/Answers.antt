@@ -1,0 +1,108 @@
+use Rattle.std.proofs.Common.{◌≡◌, ◌∙◌, ◌++◌, ◌∷◌, [], ℕ, List, Some, None, true, false, sym, refl, arith, rules}
+use Rattle.gr_lrat.specs.Numerals.{literal_said}
+use Rattle.gr_lrat.specs.Lines.{Misspelt, is_byte, addition_from}
+use Rattle.gr_lrat.specs.Statements.{spelling_of}
+use Rattle.gr_lrat.proofs.Telling.{onward_here, onward_then, onward_ends, onward_fails, tells_then}
+use Rattle.gr_lrat.proofs.AdditionSteps.{zero_added, literal_added, other_added}
+use Rattle.gr_text.proofs.Taken.{takes-then, takes-nothing}
+use Rattle.gr_lrat.proofs.additions.read_literals.Goals as goal
+
+pub tokens-init : goal.tokens-init
+tokens-init g c =
+    let p = c.args.scanner.now in
+    record {
+      same = refl;
+      goes = rw c.new-clause.ensures (onward_here
+          (λ ws. addition_from c.args.id [] (p.held.token ∷ ws))
+          (λ ws. addition_from c.args.id [] (p.held.token ∷ ws)) p.held (g.S.Source.left p.source.now)
+          (λ ws. refl));
+      known_more = omega arith;
+      within = c.requires;
+      limit = refl;
+      onward = omega arith;
+      takes = takes-nothing p.held p.held (g.S.Source.left p.source.now) refl;
+      grows = omega arith;
+    }
+
+pub returns-then-is_byte-clause-tells : goal.returns-then-is_byte-clause-tells
+returns-then-is_byte-clause-tells g c =
+    let m = c.read_hints.new.scanner in
+    let zero_ : is_byte 48 c.tokens.scanner.held.token ≡ true =
+        rw c.token.ensures at (sym c.is_byte.ensures ∙ c.if-is_byte.true) in
+    tells_then c.read_hints.result (λ read. spelling_of read.spelt) (λ read. read.end) _ _ _ _ m.held _ _
+    (g.S.Source.left m.source.now)
+    (zero_added c.args.id c.tokens.clause _ _ _ _ _ c.tokens.invariant.goes zero_)
+    c.read_hints.ensures.keeps.grows c.read_hints.ensures.tells
+
+pub returns-in-None-clause-tells : goal.returns-in-None-clause-tells
+returns-in-None-clause-tells g c =
+    let m = c.misspelt.new.scanner in
+    let other : is_byte 48 c.tokens.scanner.held.token ≡ false =
+        rw c.token.ensures at (sym c.is_byte.ensures ∙ c.if-is_byte.false) in
+    let said : literal_said c.tokens.scanner.held.token ≡ None =
+        rw c.token-in-tokens.ensures at (sym c.in-None.ensures) in
+    tells_then c.misspelt.result (λ read. spelling_of read.spelt) (λ read. read.end) _ _ _ _ m.held _ _
+    (g.S.Source.left m.source.now)
+    (other_added c.args.id c.tokens.clause _ _ _ _ _ c.tokens.invariant.goes other said)
+    c.misspelt.ensures.keeps.grows c.misspelt.ensures.tells
+
+pub tokens-preserved : goal.tokens-preserved
+tokens-preserved g c =
+    let i = c.tokens.invariant in
+    let k = c.next_piece.ensures.keeps in
+    let gone = rw c.in-Ok-Token.field-0-is at c.in-Ok-Token.ensures.onward in
+    let then = λ (ws : List (List ℕ)). addition_from c.args.id (c.tokens.clause ++ c.in-Some.lit ∷ []) ws in
+    let other : is_byte 48 c.tokens.scanner.held.token ≡ false =
+        rw c.token.ensures at (sym c.is_byte.ensures ∙ c.if-is_byte.false) in
+    let said : literal_said c.tokens.scanner.held.token ≡ Some c.in-Some.lit =
+        rw c.token-in-tokens.ensures at (sym c.in-Some.ensures) in
+    let pushed : c.push.new.self ≡ c.tokens.clause ++ c.in-Some.lit ∷ [] = search rules in
+    record {
+      same = c.next_piece.ensures.same ∙ i.same;
+      goes = rw pushed (onward_then _ then (λ ws. then (c.next_piece.new.scanner.held.token ∷ ws)) _ _ _ _ _ _
+          (literal_added c.args.id c.tokens.clause c.in-Some.lit _ _ _ _ _ i.goes other said)
+          (rw c.in-Ok-Token.field-0-is at (c.in-Ok-Token.ensures.ok then)));
+      known_more = omega (arith, i.known_more, k.grows);
+      within = k.within;
+      limit = k.limit ∙ i.limit;
+      onward = omega (arith, i.onward, gone);
+      takes = takes-then _ _ _ _ _ _ i.takes c.next_piece.ensures.takes;
+      grows = omega (arith, i.grows, c.next_piece.ensures.grows);
+    }
+
+pub returns-in-Ok-End-clause-tells : goal.returns-in-Ok-End-clause-tells
+returns-in-Ok-End-clause-tells g c =
+    let n = c.next_piece.new.scanner in
+    let then = λ (ws : List (List ℕ)). addition_from c.args.id (c.tokens.clause ++ c.in-Some.lit ∷ []) ws in
+    let other : is_byte 48 c.tokens.scanner.held.token ≡ false =
+        rw c.token.ensures at (sym c.is_byte.ensures ∙ c.if-is_byte.false) in
+    let said : literal_said c.tokens.scanner.held.token ≡ Some c.in-Some.lit =
+        rw c.token-in-tokens.ensures at (sym c.in-Some.ensures) in
+    onward_ends _ then Misspelt c.in-Ok-End.end _ _ n.held _ _ (g.S.Source.left n.source.now)
+    (literal_added c.args.id c.tokens.clause c.in-Some.lit _ _ _ _ _ c.tokens.invariant.goes other said)
+    c.next_piece.ensures.keeps.grows
+    (rw c.in-Ok-End.field-0-is at (c.in-Ok-End.ensures.ok then))
+
+pub returns-in-Err-clause-tells : goal.returns-in-Err-clause-tells
+returns-in-Err-clause-tells g c =
+    let n = c.next_piece.new.scanner in
+    let then = λ (ws : List (List ℕ)). addition_from c.args.id (c.tokens.clause ++ c.in-Some.lit ∷ []) ws in
+    let other : is_byte 48 c.tokens.scanner.held.token ≡ false =
+        rw c.token.ensures at (sym c.is_byte.ensures ∙ c.if-is_byte.false) in
+    let said : literal_said c.tokens.scanner.held.token ≡ Some c.in-Some.lit =
+        rw c.token-in-tokens.ensures at (sym c.in-Some.ensures) in
+    onward_fails _ then c.in-Err.failed _ _ n.held _ _ (g.S.Source.left n.source.now)
+    (literal_added c.args.id c.tokens.clause c.in-Some.lit _ _ _ _ _ c.tokens.invariant.goes other said)
+    c.next_piece.ensures.keeps.grows (c.in-Err.ensures.err then)
+
+pub returns-in-Ok-End-clause-takes : goal.returns-in-Ok-End-clause-takes
+returns-in-Ok-End-clause-takes g c = takes-then _ _ _ _ _ _ c.tokens.invariant.takes c.next_piece.ensures.takes
+
+pub returns-in-Err-clause-takes : goal.returns-in-Err-clause-takes
+returns-in-Err-clause-takes g c = takes-then _ _ _ _ _ _ c.tokens.invariant.takes c.next_piece.ensures.takes
+
+pub returns-then-is_byte-clause-takes : goal.returns-then-is_byte-clause-takes
+returns-then-is_byte-clause-takes g c = takes-then _ _ _ _ _ _ c.tokens.invariant.takes c.read_hints.ensures.takes
+
+pub returns-in-None-clause-takes : goal.returns-in-None-clause-takes
+returns-in-None-clause-takes g c = takes-then _ _ _ _ _ _ c.tokens.invariant.takes c.misspelt.ensures.takes
