@@ -1,7 +1,9 @@
 -- values up to a cap
-use Rattle.std.proofs.Common.{◌≡◌, ◌∙◌, ℕ, zero, suc, ◌+◌, ◌*◌, ◌-◌, ◌≤◌, ◌<◌, ◌⊎◌, inl, inr, List, [], ◌∷◌, refl, sym, ap, arith, min, true, nat_le}
+use Rattle.std.proofs.Common.{◌≡◌, ◌∙◌, ℕ, zero, suc, ◌+◌, ◌*◌, ◌-◌, ◌^◌, ◌≤◌, ◌<◌, ◌⊎◌, inl, inr, List, [], ◌∷◌, refl, sym, ap, arith, length, min, true, false, nat_le, ◌==◌, add-one, pow-suc}
+use Rattle.std.proofs.Math.Nat.{pow-le-pow_right}
 use Rattle.std.proofs.lemmas.Bool.{le-leb}
-use Rattle.gr_dimacs.specs.Numbers.{value_after, is_digit}
+use Rattle.std.specs.List.{list_all}
+use Rattle.gr_dimacs.specs.Numbers.{value, value_after, is_count, is_digit}
 
 pub value_after-le : (ds : List ℕ) (n : ℕ) → n ≤ value_after n ds
 value_after-le [] n = omega arith
@@ -27,3 +29,23 @@ digit-is b low high =
     let a : nat_le 48 b ≡ true = le-leb 48 b low in
     let c : nat_le b 57 ≡ true = le-leb b 57 high in
     rw (a, c) refl
+
+-- a number of few digits is below the cap
+pub below-cap : (size digits : ℕ) → size < 10 ^ digits → digits ≤ 12 → size < 1_000_000_000_000
+below-cap size digits below few =
+    let most : 10 ^ digits ≤ 10 ^ 12 = pow-le-pow_right (omega arith) few in
+    omega (arith, most)
+
+-- with one more digit the number has one more digit
+pub one-more-digit : (size digits digit : ℕ) → size < 10 ^ digits → digit ≤ 9 →
+    10 * size + digit < 10 ^ (digits + 1)
+one-more-digit size digits digit below small =
+    let more : 10 ^ (digits + 1) ≡ 10 ^ digits * 10 = rw add-one (pow-suc 10 digits) in
+    omega (arith, more)
+
+-- digits of which the value is below the cap
+pub counted-whole : (ds : List ℕ) (size : ℕ) → (length ds == 0) ≡ false →
+    list_all is_digit ds ≡ true → value ds ≡ size → size < 1_000_000_000_000 →
+    (is_count ds ≡ true) × (size ≡ min (value ds) 1_000_000_000_000)
+counted-whole [] size some all same small = absurd (cc)
+counted-whole (d ∷ ds) size some all same small = (all, omega arith)

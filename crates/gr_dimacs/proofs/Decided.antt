@@ -4,7 +4,7 @@ use Rattle.std.specs.Option.{option_map}
 use Rattle.gr_io.specs.Pieces.{ComesOff}
 use Rattle.gr_logic.specs.Formulas.{Cnf, IsBounded}
 use Rattle.gr_text.specs.Tokens.{Spot, marks, front, made_known, beyond, Mark}
-use Rattle.gr_text.specs.Places.{at_start, known, taken}
+use Rattle.gr_text.specs.Places.{at_start, known, taken, limit_of}
 use Rattle.gr_dimacs.specs.Stands.{Stand, Goes}
 use Rattle.gr_dimacs.specs.Tokens.{Token, Ending, Whole, Short, tokens_of, ending_of, outside, ending}
 use Rattle.gr_dimacs.specs.Grammar.{word_of, SpellsWords, Spells}
@@ -116,68 +116,86 @@ some-is : {A : Type 0} (a b : A) → Some a ≡ Some b → a ≡ b
 some-is a b h = cc h
 
 reads-formula : (limits : Limits) (f : Cnf) (taken : List ℕ) (bytes : ℕ) (l r : Option (List ℕ)) →
-    IsLawful limits → ComesOff taken l r → bytes ≤ length taken + 1 →
+    IsLawful limits → ComesOff taken l r → length taken ≤ limits.bytes → bytes ≤ length taken + 1 →
     option_map (outcome_of_text limits limits.bytes) l ≡ option_map (λ _. Ok f) r →
     option_map (outcome_of_text limits bytes) l ≡ option_map (λ _. Ok f) r →
     Reads limits (Ok f) l r
-reads-formula limits f taken bytes None None lawful came few h k = tt
-reads-formula limits f taken bytes None (Some rest) lawful came few h k = absurd (cc came)
-reads-formula limits f taken bytes (Some text) None lawful came few h k = absurd (cc came)
-reads-formula limits f taken bytes (Some text) (Some rest) lawful came few h k = record {
+reads-formula limits f taken bytes None None lawful came within few h k = tt
+reads-formula limits f taken bytes None (Some rest) lawful came within few h k = absurd (cc came)
+reads-formula limits f taken bytes (Some text) None lawful came within few h k = absurd (cc came)
+reads-formula limits f taken bytes (Some text) (Some rest) lawful came within few h k = record {
   taken = taken;
   split = some-is text (taken ++ rest) came;
+  within = within;
   answers = formula-is limits text f lawful (some-is _ _ h);
   through = through-is limits bytes text taken f few (some-is _ _ k);
 }
 
 reads-fault : (limits : Limits) (g : GrammarFault) (taken : List ℕ) (l r : Option (List ℕ)) →
-    ComesOff taken l r → option_map (outcome_of_text limits limits.bytes) l ≡ option_map
-    (λ _. Err g) r → Reads limits (Err (errors.Grammar g)) l r
-reads-fault limits g taken None None came h = tt
-reads-fault limits g taken None (Some rest) came h = absurd (cc came)
-reads-fault limits g taken (Some text) None came h = absurd (cc came)
-reads-fault limits g taken (Some text) (Some rest) came h = record {
+    ComesOff taken l r → length taken ≤ limits.bytes →
+    option_map (outcome_of_text limits limits.bytes) l ≡ option_map (λ _. Err g) r → Reads limits (Err (errors.Grammar g)) l r
+reads-fault limits g taken None None came within h = tt
+reads-fault limits g taken None (Some rest) came within h = absurd (cc came)
+reads-fault limits g taken (Some text) None came within h = absurd (cc came)
+reads-fault limits g taken (Some text) (Some rest) came within h = record {
   taken = taken;
   split = some-is text (taken ++ rest) came;
+  within = within;
   answers = err-result (fault_of limits text)
       (formula_of (map word_of (tokens_of limits.bytes text))) g (some-is _ _ h);
   through = tt;
 }
 
 reads-nothing : (limits : Limits) (line : ℕ) (taken : List ℕ) (l r : Option (List ℕ)) →
-    ComesOff taken l r → option_map (outcome_of_text limits (length taken)) l ≡ option_map
-    (λ _. Err (record { kind = TooLong; line = line })) r → Reads limits (Err errors.ReadFault) l r
-reads-nothing limits line taken None None came h = tt
-reads-nothing limits line taken None (Some rest) came h = absurd (cc came)
-reads-nothing limits line taken (Some text) None came h = absurd (cc came)
-reads-nothing limits line taken (Some text) (Some rest) came h =
+    ComesOff taken l r → length taken ≤ limits.bytes →
+    option_map (outcome_of_text limits (length taken)) l ≡ option_map (λ _. Err (record { kind = TooLong; line = line })) r → Reads limits (Err errors.ReadFault) l r
+reads-nothing limits line taken None None came within h = tt
+reads-nothing limits line taken None (Some rest) came within h = absurd (cc came)
+reads-nothing limits line taken (Some text) None came within h = absurd (cc came)
+reads-nothing limits line taken (Some text) (Some rest) came within h =
     let split = some-is text (taken ++ rest) came in
     record {
       taken = taken;
       split = split;
+      within = within;
       answers = undecided-is limits taken rest line (rw split at (some-is _ _ h));
       through = tt;
     }
 
 reads-memory : (limits : Limits) (taken : List ℕ) (l r : Option (List ℕ)) → ComesOff taken l r →
-    Reads limits (Err errors.OutOfMemory) l r
-reads-memory limits taken None None came = tt
-reads-memory limits taken None (Some rest) came = absurd (cc came)
-reads-memory limits taken (Some text) None came = absurd (cc came)
-reads-memory limits taken (Some text) (Some rest) came =
-    record { taken = taken; split = some-is text (taken ++ rest) came; answers = tt; through = tt }
+    length taken ≤ limits.bytes → Reads limits (Err errors.OutOfMemory) l r
+reads-memory limits taken None None came within = tt
+reads-memory limits taken None (Some rest) came within = absurd (cc came)
+reads-memory limits taken (Some text) None came within = absurd (cc came)
+reads-memory limits taken (Some text) (Some rest) came within =
+    record {
+      taken = taken;
+      split = some-is text (taken ++ rest) came;
+      within = within;
+      answers = tt;
+      through = tt;
+    }
 
 -- want of memory before anything was taken
 pub reads-unread : (limits : Limits) (l : Option (List ℕ)) →
     Reads limits (Err errors.OutOfMemory) l l
 reads-unread limits None = tt
-reads-unread limits (Some text) = record { taken = []; split = refl; answers = tt; through = tt }
+reads-unread limits (Some text) =
+    record { taken = []; split = refl; within = omega arith; answers = tt; through = tt }
 
 taken-all : (limits : Limits) (p n : Stand) → p.place ≡ at_start limits.bytes → (goes : Goes p n) →
     taken n.place ≡ length goes.takes.piece
 taken-all limits p n start goes =
     let none : taken p.place ≡ 0 = rw start refl in
     omega (arith, goes.takes.count, none)
+
+-- no more was taken than may be
+taken-few : (limits : Limits) (p n : Stand) → p.place ≡ at_start limits.bytes → (goes : Goes p n) →
+    length goes.takes.piece ≤ limits.bytes
+taken-few limits p n start goes =
+    let all = taken-all limits p n start goes in
+    let limit : limit_of p.place ≡ limits.bytes = rw start (omega arith) in
+    omega (arith, all, goes.keeps.limit, limit)
 
 known-few : (ended : Bool) (count : ℕ) → count + (if ended then 1 else 0) ≤ count + 1
 known-few true count = omega arith
@@ -190,15 +208,19 @@ decided-reads limits (Ok f) p n start lawful goes h =
     let all = taken-all limits p n start goes in
     let few : known n.place ≤ length goes.takes.piece + 1 =
     omega (arith, known-few n.place.ended (taken n.place), all) in
-    reads-formula limits f goes.takes.piece (known n.place) p.left n.left lawful goes.takes.left few
+    reads-formula limits f goes.takes.piece (known n.place) p.left n.left lawful goes.takes.left
+    (taken-few limits p n start goes) few
     h.0 h.1
 decided-reads limits (Err (errors.Grammar g)) p n start lawful goes h =
-    reads-fault limits g goes.takes.piece p.left n.left goes.takes.left h
+    reads-fault limits g goes.takes.piece p.left n.left goes.takes.left
+    (taken-few limits p n start goes) h
 decided-reads limits (Err errors.ReadFault) p n start lawful goes h =
     let all = taken-all limits p n start goes in
-    reads-nothing limits h.0.0 goes.takes.piece p.left n.left goes.takes.left (rw all at h.0.1)
+    reads-nothing limits h.0.0 goes.takes.piece p.left n.left goes.takes.left
+    (taken-few limits p n start goes) (rw all at h.0.1)
 decided-reads limits (Err errors.OutOfMemory) p n start lawful goes h =
     reads-memory limits goes.takes.piece p.left n.left goes.takes.left
+    (taken-few limits p n start goes)
 
 -- the same of what is equal
 pub reads-at : (limits : Limits) (res : Result Cnf ReadError) (p q l r : Option (List ℕ)) →

@@ -8,12 +8,21 @@ use Rattle.gr_dimacs.specs.declared.faults.ReadError.{ReadError}
 use Rattle.gr_dimacs.specs.declared.faults.ReadError.TheVariants as errors
 use Rattle.gr_dimacs.specs.declared.limits.Limits.{Limits}
 
+-- the largest formula and the longest text that the program takes
+abbrev pub program_limits : Limits
+program_limits = record {
+  vars = 1_000_000;
+  clauses = 5_000_000;
+  literals = 20_000_000;
+  bytes = 4_294_967_296;
+}
+
 -- no limit is above that of the program
 pub record IsLawful (limits : Limits) : Type 0 where
-  pub vars : limits.vars ≤ 1_000_000
-  pub clauses : limits.clauses ≤ 5_000_000
-  pub literals : limits.literals ≤ 20_000_000
-  pub bytes : limits.bytes ≤ 4_294_967_296
+  pub vars : limits.vars ≤ program_limits.vars
+  pub clauses : limits.clauses ≤ program_limits.clauses
+  pub literals : limits.literals ≤ program_limits.literals
+  pub bytes : limits.bytes ≤ program_limits.bytes
 
 -- the text spells this formula, and nothing in it is at fault
 pub record IsFormulaOf (limits : Limits) (text : List ℕ) (f : Cnf) : Type 0 where
@@ -47,11 +56,12 @@ abbrev pub ReadsThrough : Result Cnf ReadError → List ℕ → List ℕ → Typ
 ReadsThrough (Ok f) text taken = IsReadThrough text taken f
 ReadsThrough (Err failed) text taken = Unit {0}
 
--- bytes of the text were taken, this rest of it is left, and the answer is that of the text
+-- bytes of the text were taken, no more than may be; this rest of it is left; and the answer is that of the text
 pub record ReadsText (limits : Limits) (answer : Result Cnf ReadError) (text rest : List ℕ) : Type 0
   where
     pub taken : List ℕ
     pub split : text ≡ taken ++ rest
+    pub within : length taken ≤ limits.bytes
     pub answers : AnswersText limits answer text taken
     pub through : ReadsThrough answer text taken
 

@@ -1,5 +1,5 @@
 // A formula as it is read.
-ghost use Rattle.std.specs.Prelude.{◌≡◌, ◌<◌, ◌≤◌, ◌-◌, [], ◌&&◌, IfErr, OnOk};
+ghost use Rattle.std.specs.Prelude.{◌≡◌, ◌<◌, ◌≤◌, ◌-◌, [], ◌&&◌, length, nat_le, IfErr, OnOk};
 ghost use Rattle.gr_dimacs.specs.Answers.{Concludes};
 ghost use Rattle.gr_dimacs.specs.Building.{IsSized, RefusesNumber, TakesNumber, building, is_nil};
 ghost use Rattle.gr_dimacs.specs.Numbers.{Zero, begins, number};
@@ -71,12 +71,19 @@ impl Builder {
         }
     }
 
+    /// Whether a number here would begin a clause behind the last one.
+    fn is_past_last(&self) -> bool
+        ensures { result ≡ (is_nil self.now.clause && nat_le self.now.count (length self.now.clauses)) }
+    {
+        self.empty && self.count <= self.done
+    }
+
     /// Ends the present clause.
     fn end_clause(&mut self) -> Result<(), TakeError>
         ensures ok { OnOk result (TakesNumber Zero self.old self.new) }
         ensures err { IfErr result (λ e. RefusesNumber Zero e self.old) }
     {
-        if self.empty && self.count <= self.done {
+        if self.is_past_last() {
             return Err(TakeError::Bad(FaultKind::TooMany));
         }
         let clause = match self.clause.copy() {
@@ -99,7 +106,7 @@ impl Builder {
         ensures err { IfErr result (λ e. RefusesNumber (number word.now) e self.old) }
     {
         let _ = word;
-        if self.empty && self.count <= self.done {
+        if self.is_past_last() {
             return Err(TakeError::Bad(FaultKind::TooMany));
         }
         if size > u64::from(self.vars) {

@@ -1,5 +1,14 @@
-// Laws of the grammar: each is the contract of a function that does nothing.
+// Laws of the grammar and of the limits: each is the contract of a function that does nothing.
+ghost use Rattle.std.specs.Prelude.{◌≡◌};
 ghost use Rattle.gr_dimacs.specs.Laws.{CanonicalIsFaultless, CanonicalSpells, FaultIsExact, ShorterIsWithin, SpellsOne, WithinIsSpelled};
+ghost use Rattle.gr_dimacs.specs.Reads.{program_limits};
+
+use crate::limits::PROGRAM_LIMITS;
+
+/// The limits of the program are these numbers.
+pub fn program_limits_are_exact()
+    ensures { PROGRAM_LIMITS ≡ program_limits }
+{}
 
 /// There is no fault exactly where a formula within the limits is spelled within the bytes.
 pub fn fault_is_exact()

@@ -15,8 +15,43 @@ pub enum Numeral {
 /// From here on a number's size no longer matters.
 pub const CAP: u64 = 1_000_000_000_000;
 
+/// A number of at most so many digits is below the cap.
+const SHORT: usize = 12;
+
 /// The value of the digits, or the cap where it is above.
 pub fn count(token: &[u8]) -> Option<u64>
+    ensures { MatchOption result (is_count token.now ≡ false)
+        (λ n. (is_count token.now ≡ true) × (n ≡ min (value token.now) CAP)) }
+{
+    if token.len() > SHORT {
+        return long_count(token);
+    }
+    short_count(token)
+}
+
+/// The value of few digits, which needs no cap.
+fn short_count(token: &[u8]) -> Option<u64>
+    requires { length token.now ≤ SHORT }
+    ensures { MatchOption result (is_count token.now ≡ false)
+        (λ n. (is_count token.now ≡ true) × (n ≡ min (value token.now) CAP)) }
+{
+    if token.is_empty() {
+        return None;
+    }
+    let mut size: u64 = 0;
+    for byte in token {
+        if *byte < b'0' || *byte > b'9' {
+            return None;
+        }
+        size = size * 10 + u64::from(*byte - b'0');
+    }
+    Some(size)
+}
+
+/// The value of many digits, or the cap where it is above.
+#[cold]
+#[inline(never)]
+fn long_count(token: &[u8]) -> Option<u64>
     ensures { MatchOption result (is_count token.now ≡ false)
         (λ n. (is_count token.now ≡ true) × (n ≡ min (value token.now) CAP)) }
 {
@@ -38,34 +73,19 @@ pub fn read_numeral(token: &[u8]) -> Numeral
     ensures { SaysNumber result (number token.now) }
 {
     match token {
-        [b'-', digits @ ..] => negative(digits),
-        _ => positive(token),
+        [b'-', digits @ ..] => sized(digits, false),
+        _ => sized(token, true),
     }
 }
 
-fn negative(digits: &[u8]) -> Numeral
-    ensures { SaysNumber result (digits_number false digits.now) }
+/// What digits of this sign say.
+fn sized(digits: &[u8], positive: bool) -> Numeral
+    ensures { SaysNumber result (digits_number positive digits.now) }
 {
     match count(digits) {
         None => Numeral::Other,
         Some(0) => Numeral::Zero,
-        Some(size) => Numeral::Literal {
-            size,
-            positive: false,
-        },
-    }
-}
-
-fn positive(digits: &[u8]) -> Numeral
-    ensures { SaysNumber result (digits_number true digits.now) }
-{
-    match count(digits) {
-        None => Numeral::Other,
-        Some(0) => Numeral::Zero,
-        Some(size) => Numeral::Literal {
-            size,
-            positive: true,
-        },
+        Some(size) => Numeral::Literal { size, positive },
     }
 }
 

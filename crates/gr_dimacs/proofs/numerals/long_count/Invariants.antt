@@ -1,7 +1,7 @@
 use Rattle.std.proofs.Common.{◌≡◌, ◌≤◌, ℕ, drop, true, min}
 use Rattle.std.specs.List.{list_all}
 use Rattle.gr_dimacs.specs.Numbers.{value, value_after, is_digit}
-use Rattle.gr_dimacs.proofs.numerals.count.Given as goal
+use Rattle.gr_dimacs.proofs.numerals.long_count.Given as goal
 
 -- what is left gives the whole value, up to the cap
 abbrev pub invariant-loop-byte : goal.invariant-loop-byte
