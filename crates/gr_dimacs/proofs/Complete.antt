@@ -1,19 +1,18 @@
 -- what spells a formula has no fault
-use Rattle.std.proofs.Common.{◌≡◌, ◌∙◌, ℕ, zero, suc, ◌+◌, ◌-◌, ◌≤◌, ◌<◌, Bool, true, false, not, ◌&&◌, ◌||◌, List, [], ◌∷◌, ◌++◌, length, map, refl, sym, ap, arith, nat_eq, nat_lt, nat_le, cond, if◌then◌else◌, Option, Some, None, ◌⊎◌, inl, inr, All, length-append}
+use Rattle.std.proofs.Common.{◌≡◌, ◌∙◌, ℕ, suc, ◌+◌, ◌≤◌, ◌<◌, Bool, true, false, ◌&&◌, List, [], ◌∷◌, ◌++◌, length, map, refl, sym, ap, arith, nat_lt, nat_le, Option, None, inl, inr, All}
 use Rattle.std.specs.List.{flat_map, AllByRecursion}
-use Rattle.std.proofs.lemmas.Bool.{le-ltb, lt-ltb, le-leb, lt-leb}
-use Rattle.std.proofs.lemmas.List.{append_assoc, map-append}
-use Rattle.std.proofs.lemmas.List.Elements.{All-cons, All-push, All-nil, recursion_from_All}
-use Rattle.std.proofs.lemmas.Grind.{common_steps}
+use Rattle.std.proofs.lemmas.Bool.{le-ltb, lt-ltb, lt-leb}
+use Rattle.std.proofs.lemmas.List.{append_assoc}
+use Rattle.std.proofs.lemmas.List.Elements.{recursion_from_All}
 use Rattle.gr_logic.specs.Literals.{Literal}
 use Rattle.gr_logic.specs.Formulas.{VarsUpTo}
-use Rattle.gr_dimacs.specs.Numbers.{Number, Zero, Lit, Other, number, value, begins}
+use Rattle.gr_dimacs.specs.Numbers.{Number, Zero, Lit, Other, number, begins}
 use Rattle.gr_dimacs.specs.Tokens.{Token, Ending, Whole, Short}
 use Rattle.gr_dimacs.specs.Grammar.{numbers_of, EndsFormula, word_of}
-use Rattle.gr_dimacs.specs.Faults.{Verdict, Bad, Closing, Fine, is_zero, ended, literals, number_verdict, settled, expect, literal_count}
+use Rattle.gr_dimacs.specs.Faults.{Verdict, Fine, literals, settled}
 use Rattle.gr_dimacs.specs.declared.faults.GrammarFault.{GrammarFault}
-use Rattle.gr_dimacs.proofs.Counted.{counted, counted_verdict, closing_verdict, done_after, read_after}
-use Rattle.gr_dimacs.proofs.Sound.{is_nil, bool_cases, says, Says, says_zero, says_lit, says_other, flat-push, is_nil-push}
+use Rattle.gr_dimacs.proofs.Counted.{counted, counted_verdict}
+use Rattle.gr_dimacs.proofs.Sound.{is_nil, bool_cases, says, says_zero, says_lit, says_other, flat-push, is_nil-push}
 use Rattle.gr_dimacs.proofs.Unique.{percent-other}
 
 has_zero : List Number → Bool

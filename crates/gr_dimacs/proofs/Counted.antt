@@ -1,10 +1,9 @@
 -- the first fault, by counts alone
-use Rattle.std.proofs.Common.{◌≡◌, ◌∙◌, ℕ, zero, suc, ◌+◌, ◌-◌, ◌≤◌, ◌<◌, Bool, true, false, not, ◌&&◌, ◌||◌, List, [], ◌∷◌, ◌++◌, length, map, refl, sym, ap, arith, nat_eq, nat_lt, nat_le, cond, if◌then◌else◌, Option, Some, None, ◌⊎◌, inl, inr}
-use Rattle.std.proofs.lemmas.List.{append_assoc, map-append}
-use Rattle.std.proofs.lemmas.Grind.{common_steps}
-use Rattle.gr_dimacs.specs.Numbers.{Number, Zero, Lit, Other, number, value, begins}
+use Rattle.std.proofs.Common.{◌≡◌, ℕ, ◌+◌, Bool, not, ◌&&◌, List, [], ◌∷◌, ◌++◌, map, refl, ap, arith, nat_lt, if◌then◌else◌, Option, Some, None}
+use Rattle.std.proofs.lemmas.List.{map-append}
+use Rattle.gr_dimacs.specs.Numbers.{Number, number, value, begins}
 use Rattle.gr_dimacs.specs.Tokens.{Token, Ending, Whole, Short}
-use Rattle.gr_dimacs.specs.Faults.{Verdict, Bad, Closing, Fine, is_zero, ended, literals, is_between, number_verdict, body_verdict, verdict, end_verdict, settled, first_fault}
+use Rattle.gr_dimacs.specs.Faults.{Verdict, Bad, Closing, is_zero, ended, literals, is_between, number_verdict, body_verdict, settled, first_fault}
 use Rattle.gr_dimacs.specs.declared.faults.FaultKind.TheVariants.{TooFew, Unended, TooLong}
 use Rattle.gr_dimacs.specs.declared.faults.GrammarFault.{GrammarFault}
 use Rattle.gr_dimacs.specs.declared.limits.Limits.{Limits}

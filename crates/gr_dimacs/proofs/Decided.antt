@@ -1,5 +1,5 @@
 -- from the outcome of a text to the answer of the reader
-use Rattle.std.proofs.Common.{◌≡◌, ◌∙◌, ℕ, zero, suc, ◌+◌, ◌≤◌, Bool, true, false, List, [], ◌∷◌, ◌++◌, length, map, refl, sym, ap, arith, cond, if◌then◌else◌, Option, Some, None, Result, Ok, Err}
+use Rattle.std.proofs.Common.{◌≡◌, ◌∙◌, ℕ, ◌+◌, ◌≤◌, Bool, true, false, List, [], ◌∷◌, ◌++◌, length, map, refl, ap, arith, if◌then◌else◌, Option, Some, None, Result, Ok, Err}
 use Rattle.std.specs.Option.{option_map}
 use Rattle.gr_io.specs.Pieces.{ComesOff}
 use Rattle.gr_logic.specs.Formulas.{Cnf, IsBounded}
@@ -7,9 +7,9 @@ use Rattle.gr_text.specs.Tokens.{Spot, marks, front, made_known, beyond, Mark}
 use Rattle.gr_text.specs.Places.{at_start, known, taken, limit_of}
 use Rattle.gr_dimacs.specs.Stands.{Stand, Goes}
 use Rattle.gr_dimacs.specs.Tokens.{Token, Ending, Whole, Short, tokens_of, ending_of, outside, ending}
-use Rattle.gr_dimacs.specs.Grammar.{word_of, SpellsWords, Spells}
-use Rattle.gr_dimacs.specs.Faults.{fault_of, first_fault, verdict, end_verdict, settled, IsWithin}
-use Rattle.gr_dimacs.specs.Reads.{IsLawful, IsFormulaOf, IsReadThrough, DecidesNothing, ReadsText, Reads}
+use Rattle.gr_dimacs.specs.Grammar.{word_of, SpellsWords}
+use Rattle.gr_dimacs.specs.Faults.{fault_of, first_fault, verdict, settled, IsWithin}
+use Rattle.gr_dimacs.specs.Reads.{IsLawful, IsFormulaOf, IsReadThrough, DecidesNothing, Reads}
 use Rattle.gr_dimacs.specs.Texts.{formula_of, result_of, outcome_of_text, Decides}
 use Rattle.gr_dimacs.specs.declared.faults.FaultKind.TheVariants.{TooLong}
 use Rattle.gr_dimacs.specs.declared.faults.GrammarFault.{GrammarFault}

@@ -1,13 +1,13 @@
 -- numbers in decimal are read by their value
-use Rattle.std.proofs.Common.{◌≡◌, ◌∙◌, ℕ, suc, ◌+◌, ◌-◌, ◌^◌, ◌≤◌, ◌<◌, Bool, true, false, not, ◌&&◌, List, [], ◌∷◌, length, refl, sym, ap, arith, rules, nat_eq, nat_le, cond, if◌then◌else◌, ◌⊎◌, inl, inr, pos, negsuc}
+use Rattle.std.proofs.Common.{◌≡◌, ◌∙◌, ℕ, suc, ◌+◌, ◌-◌, ◌^◌, ◌≤◌, ◌<◌, Bool, true, false, ◌&&◌, List, [], ◌∷◌, length, refl, ap, arith, rules, nat_eq, nat_le}
 use Rattle.std.specs.List.{list_all}
 use Rattle.std.specs.Fmt.{decimal, signed_decimal}
 use Rattle.std.proofs.lemmas.Fmt.{digits_decimal, digits_value-decimal, decimal_nonempty}
 use Rattle.std.proofs.lemmas.Str.Parse.{IsNumeralModel, numerals_by_fold}
 use Rattle.std.proofs.lemmas.Bool.{leb-true}
 use Rattle.std.proofs.lemmas.Grind.{common_steps}
-use Rattle.gr_logic.specs.Literals.{Literal, number_of}
-use Rattle.gr_dimacs.specs.Numbers.{Number, Zero, Lit, is_digit, value, value_after, is_count, sized, digits_number, number}
+use Rattle.gr_logic.specs.Literals.{number_of}
+use Rattle.gr_dimacs.specs.Numbers.{Lit, is_digit, value, value_after, is_count, sized, number}
 
 -- the grammar's digits and values are those of std
 own : IsNumeralModel (λ ds. list_all is_digit ds ≡ true) (value_after 0)

@@ -1,16 +1,16 @@
 -- behind a header that is at no fault the outcome is that of the body
-use Rattle.std.proofs.Common.{◌≡◌, ◌∙◌, ℕ, ◌+◌, ◌≤◌, Bool, true, false, List, [], ◌∷◌, ◌++◌, length, map, refl, sym, ap, arith, nat_le, cond, if◌then◌else◌, Option, Some, None, Result, Ok, Err}
+use Rattle.std.proofs.Common.{◌≡◌, ◌∙◌, ℕ, ◌≤◌, true, List, [], ◌∷◌, map, refl, sym, ap, Option, Result}
 use Rattle.gr_logic.specs.Formulas.{Cnf}
-use Rattle.gr_dimacs.specs.Numbers.{number, value, is_count}
+use Rattle.gr_dimacs.specs.Numbers.{value, is_count}
 use Rattle.gr_dimacs.specs.Tokens.{Token, Ending}
 use Rattle.gr_dimacs.specs.Grammar.{word_of, p_word, cnf_word}
-use Rattle.gr_dimacs.specs.Faults.{Verdict, Bad, Fine, count_verdict, first_fault, settled, expect}
+use Rattle.gr_dimacs.specs.Faults.{Fine, count_verdict, first_fault}
 use Rattle.gr_dimacs.specs.Building.{Building, outcome}
 use Rattle.gr_dimacs.specs.declared.faults.GrammarFault.{GrammarFault}
 use Rattle.gr_dimacs.specs.declared.limits.Limits.{Limits}
 use Rattle.gr_dimacs.proofs.Counted.{first_fault-counted}
 use Rattle.gr_dimacs.proofs.Header.{count-is-fine}
-use Rattle.gr_dimacs.specs.Texts.{formula_of, grouped, result_of}
+use Rattle.gr_dimacs.specs.Texts.{formula_of, result_of}
 use Rattle.gr_dimacs.proofs.Outcome.{outcome-is}
 
 -- nothing is read behind the header

@@ -1,16 +1,15 @@
 -- the header, in both directions
-use Rattle.std.proofs.Common.{◌≡◌, ◌∙◌, ℕ, zero, suc, ◌+◌, ◌≤◌, ◌<◌, Bool, true, false, not, ◌&&◌, List, [], ◌∷◌, ◌++◌, length, map, refl, sym, ap, arith, nat_eq, nat_lt, nat_le, cond, if◌then◌else◌, Option, Some, None, ◌⊎◌, inl, inr, All, length-append}
+use Rattle.std.proofs.Common.{◌≡◌, ◌∙◌, ℕ, ◌+◌, ◌≤◌, ◌<◌, Bool, true, false, ◌&&◌, List, [], ◌∷◌, ◌++◌, length, map, refl, sym, arith, nat_eq, nat_le, if◌then◌else◌, Option, Some, None, All}
 use Rattle.std.specs.List.{flat_map}
 use Rattle.std.proofs.lemmas.Bool.{leb-true, le-leb}
-use Rattle.std.proofs.lemmas.List.{append_assoc, map-append}
 use Rattle.std.proofs.lemmas.List.Elements.{All-nil}
 use Rattle.std.proofs.lemmas.Grind.{common_steps}
 use Rattle.gr_logic.specs.Literals.{Literal}
 use Rattle.gr_logic.specs.Formulas.{Cnf}
-use Rattle.gr_dimacs.specs.Numbers.{Number, Zero, Lit, Other, number, value, is_count}
+use Rattle.gr_dimacs.specs.Numbers.{Number, number, value, is_count}
 use Rattle.gr_dimacs.specs.Tokens.{Token, Ending, Whole, Short}
 use Rattle.gr_dimacs.specs.Grammar.{numbers_of, SpellsWords, word_of, p_word, cnf_word}
-use Rattle.gr_dimacs.specs.Faults.{Verdict, Bad, Closing, Fine, same_word, expect, count_verdict, settled, first_fault, literals, literal_count, IsWithin}
+use Rattle.gr_dimacs.specs.Faults.{Bad, Fine, same_word, expect, count_verdict, settled, first_fault, literals, literal_count, IsWithin}
 use Rattle.gr_dimacs.specs.declared.faults.FaultKind.{FaultKind}
 use Rattle.gr_dimacs.specs.declared.faults.FaultKind.TheVariants.{NoHeader, BadHeader, TooLarge}
 use Rattle.gr_dimacs.specs.declared.faults.GrammarFault.{GrammarFault}

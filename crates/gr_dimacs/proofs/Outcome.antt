@@ -1,17 +1,16 @@
 -- the outcome is the first fault, or else the formula
-use Rattle.std.proofs.Common.{◌≡◌, ◌∙◌, ℕ, ◌+◌, Bool, true, false, not, ◌&&◌, List, [], ◌∷◌, ◌++◌, length, map, refl, sym, ap, arith, nat_lt, cond, if◌then◌else◌, Option, Some, None, Result, Ok, Err, ◌⊎◌, inl, inr, length-append}
+use Rattle.std.proofs.Common.{◌≡◌, ◌∙◌, ℕ, ◌+◌, true, List, [], ◌∷◌, ◌++◌, length, map, refl, sym, ap, arith, Option, None, Result, Ok, length-append}
 use Rattle.std.proofs.lemmas.List.{append_assoc, append-nil}
 use Rattle.gr_logic.specs.Literals.{Literal}
 use Rattle.gr_logic.specs.Formulas.{Cnf}
 use Rattle.gr_dimacs.specs.Numbers.{Number, Zero, Lit, Other, number, begins}
 use Rattle.gr_dimacs.specs.Tokens.{Token, Ending, Whole, Short}
 use Rattle.gr_dimacs.specs.Grammar.{word_of}
-use Rattle.gr_dimacs.specs.Faults.{Verdict, Bad, Closing, Fine, is_zero, settled, number_verdict}
-use Rattle.gr_dimacs.specs.Building.{Building, outcome, concluded, end_of, token_verdict, verdict_in, with_number, is_nil, formula_in}
-use Rattle.gr_dimacs.specs.declared.faults.FaultKind.{FaultKind}
+use Rattle.gr_dimacs.specs.Faults.{Verdict, Bad, Closing, Fine, settled, number_verdict}
+use Rattle.gr_dimacs.specs.Building.{Building, outcome, concluded, end_of, token_verdict, with_number, is_nil, formula_in}
 use Rattle.gr_dimacs.specs.declared.faults.GrammarFault.{GrammarFault}
-use Rattle.gr_dimacs.proofs.Counted.{counted, done_after, read_after, closing_verdict, counted_verdict}
-use Rattle.gr_dimacs.proofs.Sound.{says, Says, says_zero, says_lit, says_other, is_nil-push, closing-says, fine-says, end-says, settled-none, nil-is}
+use Rattle.gr_dimacs.proofs.Counted.{counted}
+use Rattle.gr_dimacs.proofs.Sound.{says, says_zero, says_lit, says_other, is_nil-push, closing-says, fine-says}
 use Rattle.gr_dimacs.proofs.Unique.{percent-other}
 use Rattle.gr_dimacs.specs.Texts.{grouped, result_of}
 

@@ -1,10 +1,10 @@
 -- what the first bytes of a text spell, the whole text spells
-use Rattle.std.proofs.Common.{◌≡◌, ◌∙◌, ℕ, zero, suc, ◌+◌, ◌≤◌, ◌<◌, Bool, true, false, not, ◌&&◌, ◌||◌, List, [], ◌∷◌, ◌++◌, length, map, refl, sym, ap, arith, nat_eq, cond, if◌then◌else◌, ◌⊎◌, inl, inr}
+use Rattle.std.proofs.Common.{◌≡◌, ℕ, zero, suc, ◌+◌, ◌≤◌, ◌<◌, Bool, true, false, ◌&&◌, ◌||◌, List, [], ◌∷◌, ◌++◌, length, map, refl, sym, ap, arith, if◌then◌else◌, ◌⊎◌, inl, inr}
 use Rattle.std.proofs.lemmas.List.{append_assoc, map-append}
 use Rattle.gr_logic.specs.Formulas.{Cnf}
 use Rattle.gr_text.specs.Tokens.{Mark, Word, Break, Stop, Cut, Spot, marks, made_known, beyond, ended, is_line_feed, is_space, front}
 use Rattle.gr_dimacs.specs.Numbers.{begins}
-use Rattle.gr_dimacs.specs.Tokens.{Token, Ending, Whole, Short, outside, ending, tokens_of, ending_of, room_for}
+use Rattle.gr_dimacs.specs.Tokens.{Token, Ending, Short, outside, ending, room_for}
 use Rattle.gr_dimacs.specs.Grammar.{EndsFormula, SpellsWords, SpellsWithin, Spells, word_of}
 
 -- words and line ends

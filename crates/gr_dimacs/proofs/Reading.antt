@@ -1,14 +1,13 @@
 -- how the outcome comes, token by token
-use Rattle.std.proofs.Common.{◌≡◌, ◌∙◌, ℕ, ◌+◌, ◌≤◌, ◌<◌, Bool, true, false, not, ◌&&◌, List, [], ◌∷◌, refl, sym, ap, arith, nat_lt, cond, if◌then◌else◌, Option, Some, None, Result, Ok, Err}
+use Rattle.std.proofs.Common.{◌≡◌, ◌∙◌, ℕ, ◌≤◌, Bool, true, false, ◌&&◌, List, [], refl, sym, ap, arith, Result, Ok, Err}
 use Rattle.std.specs.Option.{option_map}
-use Rattle.gr_io.specs.Pieces.{Rose}
 use Rattle.gr_logic.specs.Formulas.{Cnf}
-use Rattle.gr_text.specs.Places.{Place, known, taken, limit_of}
+use Rattle.gr_text.specs.Places.{known, taken, limit_of}
 use Rattle.gr_dimacs.specs.Stands.{Stand}
 use Rattle.gr_dimacs.specs.Numbers.{number, begins}
-use Rattle.gr_dimacs.specs.Tokens.{Token, Ending, Whole, Short}
-use Rattle.gr_dimacs.specs.Faults.{Verdict, Bad, Closing, Fine, number_verdict}
-use Rattle.gr_dimacs.specs.Finds.{Read, told, behind, over, Heads, EndsIn, FindFails}
+use Rattle.gr_dimacs.specs.Tokens.{Ending, Whole, Short}
+use Rattle.gr_dimacs.specs.Faults.{Verdict, Fine}
+use Rattle.gr_dimacs.specs.Finds.{told, behind, Heads, EndsIn, FindFails}
 use Rattle.gr_dimacs.specs.Building.{Building, outcome, concluded, end_of, token_verdict, verdict_in, with_number, is_nil}
 use Rattle.gr_dimacs.specs.Answers.{outcome_of, outcome_told, Settles, Answers, Concludes}
 use Rattle.gr_dimacs.specs.declared.faults.ReadError.{ReadError}

@@ -1,17 +1,16 @@
 -- the canonical text spells its formula
-use Rattle.std.proofs.Common.{◌≡◌, ◌∙◌, ℕ, zero, suc, ◌+◌, ◌-◌, ◌^◌, ◌≤◌, ◌<◌, Bool, true, false, not, ◌&&◌, ◌||◌, List, [], ◌∷◌, ◌++◌, length, map, refl, sym, ap, arith, nat_eq, nat_le, cond, if◌then◌else◌, ◌⊎◌, inl, inr, pos, negsuc, All, lit≤}
-use Rattle.std.specs.List.{flat_map, list_all, AllByRecursion}
+use Rattle.std.proofs.Common.{◌≡◌, ◌∙◌, ℕ, suc, ◌+◌, ◌^◌, ◌≤◌, ◌<◌, Bool, true, false, ◌&&◌, List, [], ◌∷◌, ◌++◌, length, map, refl, ap, arith, nat_eq, nat_le}
+use Rattle.std.specs.List.{flat_map, list_all}
 use Rattle.std.specs.Fmt.{decimal, signed_decimal}
 use Rattle.std.proofs.lemmas.List.{append_assoc, append-nil, map-append}
-use Rattle.std.proofs.lemmas.List.Elements.{recursion_from_All}
 use Rattle.std.proofs.lemmas.Bool.{leb-true}
 use Rattle.std.proofs.lemmas.Grind.{common_steps}
 use Rattle.gr_logic.specs.Literals.{Literal, number_of}
-use Rattle.gr_logic.specs.Formulas.{Cnf, IsBounded, VarsUpTo}
-use Rattle.gr_text.specs.Tokens.{Mark, Word, Break, is_space, is_line_feed, front}
-use Rattle.gr_dimacs.specs.Numbers.{Number, Zero, Lit, is_digit, is_count, value, number, begins}
-use Rattle.gr_dimacs.specs.Tokens.{Token, Ending, Whole, outside, ending}
-use Rattle.gr_dimacs.specs.Grammar.{SpellsWords, Spells, numbers_of, word_of, p_word, cnf_word}
+use Rattle.gr_logic.specs.Formulas.{Cnf, IsBounded}
+use Rattle.gr_text.specs.Tokens.{is_space, is_line_feed}
+use Rattle.gr_dimacs.specs.Numbers.{is_digit, is_count, number, begins}
+use Rattle.gr_dimacs.specs.Tokens.{outside}
+use Rattle.gr_dimacs.specs.Grammar.{Spells, numbers_of, word_of, p_word, cnf_word}
 use Rattle.gr_dimacs.specs.Canonical.{canonical_text, clause_text, header_text, literal_text}
 use Rattle.gr_dimacs.proofs.Complete.{AllVarsIn, VarsIn, all-vars-in}
 use Rattle.gr_dimacs.proofs.Digits.{decimal-is-count, number-literal, value-decimal}

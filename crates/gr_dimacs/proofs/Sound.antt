@@ -1,18 +1,17 @@
 -- what has no fault spells a formula
-use Rattle.std.proofs.Common.{◌≡◌, ◌∙◌, ℕ, zero, suc, ◌+◌, ◌-◌, ◌≤◌, ◌<◌, Bool, true, false, not, ◌&&◌, ◌||◌, List, [], ◌∷◌, ◌++◌, length, map, refl, sym, ap, arith, nat_eq, nat_lt, nat_le, cond, if◌then◌else◌, Option, Some, None, ◌⊎◌, inl, inr, All, length-append}
+use Rattle.std.proofs.Common.{◌≡◌, ◌∙◌, ℕ, ◌+◌, ◌≤◌, ◌<◌, Bool, true, false, not, ◌&&◌, List, [], ◌∷◌, ◌++◌, length, map, refl, sym, ap, arith, nat_lt, nat_le, if◌then◌else◌, Option, None, ◌⊎◌, inl, inr, All}
 use Rattle.std.specs.List.{flat_map}
-use Rattle.std.proofs.lemmas.Bool.{ltb-true, ltb-false, leb-true, leb-false}
+use Rattle.std.proofs.lemmas.Bool.{ltb-true, ltb-false, leb-false}
 use Rattle.std.proofs.lemmas.List.{append_assoc, map-append}
 use Rattle.std.proofs.lemmas.List.Elements.{All-cons, All-push, All-nil}
-use Rattle.std.proofs.lemmas.Grind.{common_steps}
 use Rattle.gr_logic.specs.Literals.{Literal}
 use Rattle.gr_logic.specs.Formulas.{VarsUpTo}
-use Rattle.gr_dimacs.specs.Numbers.{Number, Zero, Lit, Other, number, value, begins}
+use Rattle.gr_dimacs.specs.Numbers.{Number, Zero, Lit, Other, number, begins}
 use Rattle.gr_dimacs.specs.Tokens.{Token, Ending, Whole, Short}
 use Rattle.gr_dimacs.specs.Grammar.{numbers_of, EndsFormula, word_of}
-use Rattle.gr_dimacs.specs.Faults.{Verdict, Bad, Closing, Fine, is_zero, ended, literals, number_verdict, settled, expect, literal_count}
+use Rattle.gr_dimacs.specs.Faults.{Verdict, Bad, Closing, Fine, is_zero, literals, number_verdict, settled, expect}
 use Rattle.gr_dimacs.specs.declared.faults.FaultKind.{FaultKind}
-use Rattle.gr_dimacs.specs.declared.faults.FaultKind.TheVariants.{TooFew, Unended, TooLong, TooMany, VarAbove, TooLarge, BadToken}
+use Rattle.gr_dimacs.specs.declared.faults.FaultKind.TheVariants.{TooFew, Unended, TooMany, VarAbove, TooLarge}
 use Rattle.gr_dimacs.specs.declared.faults.GrammarFault.{GrammarFault}
 use Rattle.gr_dimacs.proofs.Counted.{counted, counted_verdict, closing_verdict, done_after, read_after}
 

@@ -1,5 +1,5 @@
 -- the marks of words with a blank behind each
-use Rattle.std.proofs.Common.{◌≡◌, ◌∙◌, ℕ, zero, suc, ◌+◌, ◌≤◌, ◌<◌, Bool, true, false, ◌&&◌, ◌||◌, List, [], ◌∷◌, ◌++◌, length, refl, sym, ap, arith, nat_eq, cond, if◌then◌else◌, ◌⊎◌, inl, inr}
+use Rattle.std.proofs.Common.{◌≡◌, ◌∙◌, ℕ, zero, suc, ◌+◌, ◌<◌, Bool, true, false, ◌&&◌, List, [], ◌∷◌, ◌++◌, length, refl, arith, ◌⊎◌, inl, inr}
 use Rattle.std.proofs.lemmas.List.{append_assoc, append-nil, length-append}
 use Rattle.gr_text.specs.Tokens.{is_space, is_line_feed, Mark, Word, Break, Stop, Spot, ended, made_known, beyond, marks}
 use Rattle.gr_dimacs.specs.Tokens.{Ending, Whole, ending}

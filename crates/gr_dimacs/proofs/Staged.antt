@@ -1,17 +1,16 @@
 -- the header, token by token
-use Rattle.std.proofs.Common.{◌≡◌, ◌∙◌, ℕ, ◌+◌, ◌≤◌, Bool, true, false, List, [], ◌∷◌, ◌++◌, map, refl, sym, ap, arith, nat_le, cond, if◌then◌else◌, Option, Some, None, Result, Ok, Err, ◌⊎◌, inl, inr}
+use Rattle.std.proofs.Common.{◌≡◌, ◌∙◌, ℕ, ◌≤◌, false, List, [], ◌∷◌, ◌++◌, map, refl, sym, ap, arith, Option, Result, Err, inl, inr}
 use Rattle.std.specs.Option.{option_map}
 use Rattle.std.proofs.lemmas.List.{append_assoc}
-use Rattle.gr_io.specs.Pieces.{Rose}
 use Rattle.gr_logic.specs.Formulas.{Cnf}
 use Rattle.gr_text.specs.Places.{Place, known, taken, limit_of}
 use Rattle.gr_dimacs.specs.Stands.{Stand, Goes}
 use Rattle.gr_dimacs.specs.Numbers.{is_count, value}
-use Rattle.gr_dimacs.specs.Tokens.{Token, Ending, Whole, Short}
+use Rattle.gr_dimacs.specs.Tokens.{Ending, Whole, Short}
 use Rattle.gr_dimacs.specs.Grammar.{word_of, p_word, cnf_word}
-use Rattle.gr_dimacs.specs.Faults.{Verdict, Bad, Fine, first_fault, verdict, end_verdict, settled}
+use Rattle.gr_dimacs.specs.Faults.{Bad, Fine, verdict, end_verdict}
 use Rattle.gr_dimacs.specs.Finds.{Read, told, behind, over, Heads, EndsIn}
-use Rattle.gr_dimacs.specs.Heads.{HeadFails, HasCount, HasWord, TokenFails}
+use Rattle.gr_dimacs.specs.Heads.{HasCount, HasWord, TokenFails}
 use Rattle.gr_dimacs.specs.Texts.{formula_of, result_of, outcome_behind, text_told, Headed, HeaderFails}
 use Rattle.gr_dimacs.specs.declared.faults.FaultKind.{FaultKind}
 use Rattle.gr_dimacs.specs.declared.faults.FaultKind.TheVariants.{TooLong}
@@ -19,8 +18,7 @@ use Rattle.gr_dimacs.specs.declared.faults.GrammarFault.{GrammarFault}
 use Rattle.gr_dimacs.specs.declared.limits.Limits.{Limits}
 use Rattle.gr_dimacs.specs.declared.faults.ReadError.{ReadError}
 use Rattle.gr_dimacs.specs.declared.faults.ReadError.TheVariants as errors
-use Rattle.gr_dimacs.specs.Building.{Building, outcome}
-use Rattle.gr_dimacs.specs.Answers.{outcome_of, outcome_told}
+use Rattle.gr_dimacs.specs.Building.{Building}
 use Rattle.gr_dimacs.proofs.Counted.{first_fault-counted}
 use Rattle.gr_dimacs.proofs.Outcome.{outcome-is}
 use Rattle.gr_dimacs.proofs.Header.{same_word-is, count-is-fine}

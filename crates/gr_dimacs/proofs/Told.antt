@@ -1,16 +1,16 @@
 -- what a scanner's marks tell of the tokens
-use Rattle.std.proofs.Common.{◌≡◌, ◌∙◌, ℕ, suc, ◌+◌, ◌≤◌, ◌<◌, Bool, true, false, ◌||◌, ◌&&◌, List, [], ◌∷◌, ◌++◌, length, refl, sym, ap, arith, cond, if◌then◌else◌, Option, Some, None, ◌⊎◌, inl, inr}
+use Rattle.std.proofs.Common.{◌≡◌, ◌∙◌, ℕ, ◌≤◌, Bool, true, false, ◌&&◌, List, [], ◌∷◌, ◌++◌, refl, sym, ap, arith, if◌then◌else◌, Option, Some, None, inl, inr}
 use Rattle.std.specs.Option.{option_map}
 use Rattle.std.proofs.lemmas.List.{append_assoc, length-append}
 use Rattle.gr_io.specs.Pieces.{ComesOff, Rose}
-use Rattle.gr_text.specs.Tokens.{Mark, Word, Break, Stop, Cut, Spot, from_line_end}
+use Rattle.gr_text.specs.Tokens.{Mark, Word, Break, Stop, Cut, from_line_end}
 use Rattle.gr_text.specs.Places.{Place, Takes, known, taken, limit_of, coming, between}
 use Rattle.gr_text.specs.Scans.{Gives, Closes, Fails, Keeps, Skips, SkipFails}
 use Rattle.gr_text.specs.declared.scanners.ScanError.{ScanError}
 use Rattle.gr_text.specs.declared.scanners.ScanError.TheVariants as errors
 use Rattle.gr_dimacs.specs.Stands.{Stand, Goes}
 use Rattle.gr_dimacs.specs.Numbers.{begins}
-use Rattle.gr_dimacs.specs.Tokens.{Token, Ending, Whole, Short, outside, ending}
+use Rattle.gr_dimacs.specs.Tokens.{Token, Whole, outside, ending}
 use Rattle.gr_dimacs.specs.Finds.{Read, read_of, told, behind, over, FindFails}
 
 pub option_map-twice : {A B C : Type 0} (f : B → C) (g : A → B) (o : Option A) →

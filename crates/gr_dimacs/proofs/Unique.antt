@@ -1,15 +1,14 @@
 -- a text spells at most one formula
-use Rattle.std.proofs.Common.{◌≡◌, ◌∙◌, ℕ, suc, ◌+◌, Bool, true, false, List, [], ◌∷◌, ◌++◌, length, map, refl, sym, ap, arith, nat_eq, cond, if◌then◌else◌, ◌⊎◌, inl, inr}
-use Rattle.std.specs.List.{flat_map, list_all}
+use Rattle.std.proofs.Common.{◌≡◌, ◌∙◌, ℕ, true, List, [], ◌∷◌, ◌++◌, map, refl, sym, ap, arith}
+use Rattle.std.specs.List.{flat_map}
 use Rattle.std.proofs.lemmas.List.{append_assoc, map-append}
 use Rattle.std.proofs.lemmas.Grind.{common_steps}
 use Rattle.gr_logic.specs.Literals.{Literal}
 use Rattle.gr_logic.specs.Formulas.{Cnf}
-use Rattle.gr_dimacs.specs.Numbers.{Number, Zero, Lit, Other, number, value, begins, is_count, digits_number, is_digit}
-use Rattle.gr_dimacs.specs.Tokens.{Ending, Whole, Short}
-use Rattle.gr_dimacs.specs.Grammar.{numbers_of, EndsFormula, SpellsWords, p_word, cnf_word}
+use Rattle.gr_dimacs.specs.Numbers.{Number, Other, number, begins}
+use Rattle.gr_dimacs.specs.Tokens.{Ending}
+use Rattle.gr_dimacs.specs.Grammar.{numbers_of, EndsFormula, SpellsWords}
 use Rattle.gr_dimacs.specs.Texts.{grouped, formula_of}
-use Rattle.gr_dimacs.proofs.Sound.{bool_cases}
 
 grouped-clause : (c present : List Literal) (ns : List Number) →
     grouped present (numbers_of c ++ ns) ≡ (present ++ c) ∷ grouped [] ns

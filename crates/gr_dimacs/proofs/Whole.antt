@@ -1,11 +1,9 @@
 -- from the start of a text to its outcome
-use Rattle.std.proofs.Common.{◌≡◌, ◌∙◌, ℕ, ◌+◌, ◌-◌, ◌≤◌, Bool, true, false, List, [], ◌∷◌, refl, sym, ap, arith, Option, Some, None, Result, Ok, Err}
+use Rattle.std.proofs.Common.{◌≡◌, ◌∙◌, ℕ, ◌-◌, [], refl, sym, ap, arith, Result, Ok, Err}
 use Rattle.std.specs.Option.{option_map}
-use Rattle.gr_io.specs.Pieces.{Rose}
 use Rattle.gr_logic.specs.Formulas.{Cnf}
-use Rattle.gr_text.specs.Places.{Place, at_start, known, taken, limit_of}
+use Rattle.gr_text.specs.Places.{at_start, known, taken, limit_of}
 use Rattle.gr_dimacs.specs.Stands.{Stand, Goes}
-use Rattle.gr_dimacs.specs.Finds.{told}
 use Rattle.gr_dimacs.specs.Building.{Building}
 use Rattle.gr_dimacs.specs.Answers.{Answers}
 use Rattle.gr_dimacs.specs.Texts.{text_told, outcome_behind, outcome_of_text, Headed, HeaderFails, Decides}

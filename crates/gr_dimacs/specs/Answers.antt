@@ -1,5 +1,5 @@
 -- what reading the body answers
-use Rattle.std.specs.Prelude.{◌≡◌, ◌≤◌, ℕ, List, Option, Result, Ok, Err}
+use Rattle.std.specs.Prelude.{◌≡◌, ◌≤◌, ℕ, Option, Result, Ok, Err}
 use Rattle.std.specs.Option.{option_map}
 use Rattle.gr_io.specs.Pieces.{Rose}
 use Rattle.gr_logic.specs.Formulas.{Cnf}

@@ -1,10 +1,10 @@
 -- a formula as it is read
-use Rattle.std.specs.Prelude.{◌≡◌, ◌≤◌, ◌<◌, ◌+◌, ◌-◌, ℕ, Bool, true, false, not, ◌&&◌, nat_lt, min, if◌then◌else◌, List, [], ◌∷◌, ◌++◌, length, Option, Result, Ok, Err}
+use Rattle.std.specs.Prelude.{◌≡◌, ◌≤◌, ◌<◌, ◌+◌, ◌-◌, ℕ, Bool, true, false, not, ◌&&◌, nat_lt, min, if◌then◌else◌, List, [], ◌∷◌, ◌++◌, length, Result, Ok, Err}
 use Rattle.gr_logic.specs.Literals.{Literal}
 use Rattle.gr_logic.specs.Formulas.{Cnf, VarsUpTo}
 use Rattle.gr_dimacs.specs.Numbers.{Number, Zero, Lit, Other, number, begins}
 use Rattle.gr_dimacs.specs.Tokens.{Token, Ending, Whole, Short}
-use Rattle.gr_dimacs.specs.Faults.{Verdict, Bad, Closing, Fine, number_verdict, expect}
+use Rattle.gr_dimacs.specs.Faults.{Verdict, Bad, Closing, Fine, number_verdict}
 use Rattle.gr_dimacs.specs.declared.faults.FaultKind.{FaultKind}
 use Rattle.gr_dimacs.specs.declared.faults.FaultKind.TheVariants.{TooFew, Unended, TooLong}
 use Rattle.gr_dimacs.specs.declared.faults.GrammarFault.{GrammarFault}

@@ -1,5 +1,5 @@
 -- the tokens of the header, one at a time
-use Rattle.std.specs.Prelude.{◌≡◌, ◌≤◌, ◌⊎◌, ℕ, Bool, true, false, List, [], Result, Ok, Err}
+use Rattle.std.specs.Prelude.{◌≡◌, ◌≤◌, ◌⊎◌, ℕ, true, false, List, Result, Ok, Err}
 use Rattle.gr_io.specs.Pieces.{Rose}
 use Rattle.gr_text.specs.Places.{taken, limit_of}
 use Rattle.gr_dimacs.specs.Stands.{Stand}

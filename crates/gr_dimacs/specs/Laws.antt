@@ -1,5 +1,5 @@
 -- what the laws say
-use Rattle.std.specs.Prelude.{◌≡◌, ◌<◌, ◌↔◌, ℕ, List, length, Option, None}
+use Rattle.std.specs.Prelude.{◌≡◌, ◌<◌, ◌↔◌, ℕ, List, length, None}
 use Rattle.gr_logic.specs.Formulas.{Cnf, IsBounded}
 use Rattle.gr_dimacs.specs.Canonical.{canonical_text}
 use Rattle.gr_dimacs.specs.Grammar.{Spells, SpellsWithin}

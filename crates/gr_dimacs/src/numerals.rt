@@ -1,6 +1,6 @@
 // Tokens as numbers.
-ghost use Rattle.std.specs.Prelude.{◌≡◌, ◌≤◌, ◌<◌, ◌+◌, ◌*◌, ◌-◌, ℕ, length, min, true, false, MatchOption, slice_index};
-ghost use Rattle.gr_dimacs.specs.Numbers.{is_count, is_digit, value, number, digits_number};
+ghost use Rattle.std.specs.Prelude.{◌≡◌, ◌≤◌, ◌<◌, ◌+◌, ◌*◌, ◌-◌, ℕ, length, min, not, true, false, MatchOption, slice_index};
+ghost use Rattle.gr_dimacs.specs.Numbers.{begins, is_count, is_digit, value, number, digits_number};
 ghost use Rattle.gr_dimacs.specs.Building.{SaysNumber};
 
 /// What a token says.
@@ -40,12 +40,21 @@ fn short_count(token: &[u8]) -> Option<u64>
     }
     let mut size: u64 = 0;
     for byte in token {
-        if *byte < b'0' || *byte > b'9' {
+        let value = digit_value(*byte);
+        if value > 9 {
             return None;
         }
-        size = size * 10 + u64::from(*byte - b'0');
+        size = size * 10 + u64::from(value);
     }
     Some(size)
+}
+
+/// The value of a digit, or a number above 9.
+fn digit_value(byte: u8) -> u8
+    ensures digit { result ≤ 9 → byte ≡ result + 48 }
+    ensures other { 9 < result → is_digit byte ≡ false }
+{
+    byte.wrapping_sub(b'0')
 }
 
 /// The value of many digits, or the cap where it is above.
@@ -72,10 +81,27 @@ fn long_count(token: &[u8]) -> Option<u64>
 pub fn read_numeral(token: &[u8]) -> Numeral
     ensures { SaysNumber result (number token.now) }
 {
+    // Signs come in no order, so that a branch on them would often be guessed wrong.
+    let negative = begins_minus(token);
+    sized(behind_sign(token, negative), !negative)
+}
+
+/// Whether the token begins with a minus sign.
+fn begins_minus(token: &[u8]) -> bool
+    ensures { result ≡ begins 45 token.now }
+{
     match token {
-        [b'-', digits @ ..] => sized(digits, false),
-        _ => sized(token, true),
+        [byte, ..] => *byte == b'-',
+        [] => false,
     }
+}
+
+/// The token without its sign.
+fn behind_sign(token: &[u8], negative: bool) -> &[u8]
+    requires { negative ≡ begins 45 token.now }
+    ensures { digits_number (not negative) result.now ≡ number token.now }
+{
+    &token[usize::from(negative)..]
 }
 
 /// What digits of this sign say.

@@ -60,6 +60,8 @@ fn read_scanned<S: Source>(
 }
 
 /// Reads the clauses, which the builder takes, up to the end of the formula.
+// Apart from its caller, so that registers are given out for this loop alone.
+#[inline(never)]
 fn read_body<S: Source>(
     scanner: &mut Scanner<'_, S>,
     mut builder: Builder,

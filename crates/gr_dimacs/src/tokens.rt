@@ -15,7 +15,6 @@ pub enum Found {
 }
 
 /// The next token outside comments. The scanner then holds its bytes.
-#[inline(always)]
 pub fn next_token<S: Source>(scanner: &mut Scanner<'_, S>) -> Result<Found, ScanError>
     ensures same { scanner.new.source.ghost_name ≡ scanner.old.source.ghost_name }
     ensures goes { Goes

@@ -1,4 +1,4 @@
-use Rattle.std.proofs.Common.{◌≡◌, ◌∷◌, [], refl}
+use Rattle.std.proofs.Common.{◌∷◌, [], refl}
 use Rattle.gr_dimacs.specs.Grammar.{p_word, cnf_word}
 use Rattle.gr_dimacs.specs.declared.faults.FaultKind.TheVariants.{NoHeader, BadHeader}
 use Rattle.gr_dimacs.proofs.Staged.{first-fails, heads-builder, staged-cnf, staged-count, staged-fails, staged-p, staged-vars}

@@ -1,4 +1,4 @@
-use Rattle.std.proofs.Common.{◌≡◌, ◌∙◌, ◌≤◌, ◌<◌, ◌+◌, ◌*◌, ◌-◌, ◌^◌, ℕ, length, drop, get_or, sym, arith, true, ◌∷◌}
+use Rattle.std.proofs.Common.{◌≡◌, ◌∙◌, ◌≤◌, ◌+◌, ◌*◌, ◌-◌, length, get_or, sym, arith, true}
 use Rattle.std.specs.List.{list_all}
 use Rattle.std.proofs.lemmas.List.{at_drop_all, drop_more}
 use Rattle.gr_dimacs.specs.Numbers.{value, value_after, is_digit}
@@ -38,9 +38,12 @@ loop-byte-preserved c =
     let rest = rw split at i.rest in
     let digits = rw split at i.digits in
     let byte = get_or c.args.token.now c.loop-byte.byte-index 0 in
-    let digit : is_digit byte ≡ true = digit-is byte c.if-byte-lt48.false c.if-byte-gt57.false in
+    let value : byte ≡ c.digit_value-value.result + 48 =
+    c.digit_value-value.ensures.digit c.if-value-gt9.false in
+    let digit : is_digit byte ≡ true = digit-is byte (omega (arith, value)) (omega (arith, value)) in
     let size = c.loop-byte.size in
-    let same : size * 10 + c.from.result ≡ 10 * size + (byte - 48) = omega (arith, c.from.ensures) in
+    let same : size * 10 + c.from.result ≡ 10 * size + (byte - 48) =
+    omega (arith, c.from.ensures, value) in
     rw same (record {
       small = one-more-digit size c.loop-byte.byte-index (byte - 48) i.small (omega arith);
       rest = rest;

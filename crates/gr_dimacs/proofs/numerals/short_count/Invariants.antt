@@ -1,4 +1,4 @@
-use Rattle.std.proofs.Common.{◌≡◌, ◌<◌, ◌^◌, ℕ, drop}
+use Rattle.std.proofs.Common.{◌≡◌, ◌<◌, ◌^◌, drop}
 use Rattle.std.specs.List.{list_all}
 use Rattle.gr_dimacs.specs.Numbers.{value, value_after, is_digit}
 use Rattle.gr_dimacs.proofs.numerals.short_count.Given as goal

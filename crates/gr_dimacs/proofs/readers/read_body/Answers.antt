@@ -1,4 +1,4 @@
-use Rattle.std.proofs.Common.{◌≡◌, ◌≤◌, ◌∙◌, refl, sym, arith, rules}
+use Rattle.std.proofs.Common.{◌≤◌, ◌∙◌, sym, arith}
 use Rattle.gr_text.specs.Places.{known, limit_of}
 use Rattle.gr_dimacs.specs.Faults.{Fine}
 use Rattle.gr_dimacs.specs.Stands.{stand}

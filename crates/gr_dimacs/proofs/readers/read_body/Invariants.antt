@@ -1,4 +1,4 @@
-use Rattle.std.proofs.Common.{◌≡◌, ◌≤◌, ◌+◌, length}
+use Rattle.std.proofs.Common.{◌≡◌, ◌+◌, length}
 use Rattle.gr_dimacs.specs.Stands.{Goes, stand}
 use Rattle.gr_dimacs.proofs.Reading.{Comes}
 use Rattle.gr_dimacs.proofs.readers.read_body.Given as goal

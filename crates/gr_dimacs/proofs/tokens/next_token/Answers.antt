@@ -1,4 +1,4 @@
-use Rattle.std.proofs.Common.{◌≡◌, ◌≤◌, ◌∙◌, ◌+◌, arith}
+use Rattle.std.proofs.Common.{◌≤◌, ◌∙◌, arith}
 use Rattle.gr_text.specs.Places.{known}
 use Rattle.gr_dimacs.specs.Stands.{stand}
 use Rattle.gr_dimacs.proofs.Told.{comment-is, fails-later, goes-then, onward-comment, onward-goes, onward-line, onward-next, rose-later, told-skip-fails, went}

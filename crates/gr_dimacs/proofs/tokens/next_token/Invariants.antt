@@ -1,4 +1,4 @@
-use Rattle.std.proofs.Common.{◌≡◌, ◌≤◌, ◌+◌, length}
+use Rattle.std.proofs.Common.{◌≡◌, ◌+◌, length}
 use Rattle.gr_dimacs.specs.Stands.{stand}
 use Rattle.gr_dimacs.proofs.Told.{Onward}
 use Rattle.gr_dimacs.proofs.tokens.next_token.Given as goal

@@ -1,4 +1,4 @@
-use Rattle.std.proofs.Common.{◌≡◌, pos, arith, rules}
+use Rattle.std.proofs.Common.{pos, arith}
 use Rattle.std.proofs.lemmas.Int.{ints}
 use Rattle.std.specs.Fmt.{signed_decimal}
 use Rattle.gr_dimacs.specs.Printed.{output}

@@ -1,7 +1,7 @@
 use Rattle.std.proofs.Common.{[], ◌∷◌, ◌++◌, Err}
 use Rattle.std.specs.Fmt.{decimal}
 use Rattle.gr_dimacs.specs.Printed.{output}
-use Rattle.gr_dimacs.proofs.PrintedSteps.{fails-more, printed-by, printed-then}
+use Rattle.gr_dimacs.proofs.PrintedSteps.{fails-more, printed-then}
 use Rattle.gr_dimacs.proofs.writers.print_header.Goals as goal
 
 pub returns-in-Err-clause-printed : goal.returns-in-Err-clause-printed

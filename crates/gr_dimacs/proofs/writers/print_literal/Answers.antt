@@ -1,4 +1,4 @@
-use Rattle.std.proofs.Common.{[], ◌∷◌, ◌≡◌, arith, rules}
+use Rattle.std.proofs.Common.{[], ◌∷◌, arith}
 use Rattle.std.proofs.lemmas.Int.{ints}
 use Rattle.gr_logic.specs.Literals.{number_of}
 use Rattle.gr_dimacs.specs.Printed.{output}

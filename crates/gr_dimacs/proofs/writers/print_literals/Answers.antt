@@ -1,4 +1,4 @@
-use Rattle.std.proofs.Common.{[], ◌∷◌, ◌≡◌, ◌∙◌, ◌+◌, ap, drop, arith, length, refl, sym}
+use Rattle.std.proofs.Common.{◌∷◌, ◌≡◌, ◌∙◌, ◌+◌, ap, drop, arith, refl, sym}
 use Rattle.std.proofs.lemmas.List.{drop_all, drop_more}
 use Rattle.gr_dimacs.specs.Canonical.{literal_text}
 use Rattle.gr_dimacs.specs.Printed.{output}

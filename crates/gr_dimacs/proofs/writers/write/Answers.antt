@@ -1,4 +1,4 @@
-use Rattle.std.proofs.Common.{◌≡◌, ◌∙◌, ap, rules, sym}
+use Rattle.std.proofs.Common.{ap, rules, sym}
 use Rattle.gr_dimacs.specs.Canonical.{canonical_text}
 use Rattle.gr_dimacs.specs.Printed.{output}
 use Rattle.gr_dimacs.proofs.PrintedSteps.{failed-part, flushed-all, flushed-part, gains-at, part-at}
