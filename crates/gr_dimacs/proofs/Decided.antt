@@ -116,8 +116,8 @@ some-is : {A : Type 0} (a b : A) → Some a ≡ Some b → a ≡ b
 some-is a b h = cc h
 
 reads-formula : (limits : Limits) (f : Cnf) (taken : List ℕ) (bytes : ℕ) (l r : Option (List ℕ)) →
-    IsLawful limits → ComesOff taken l r → length taken ≤ limits.bytes → bytes ≤ length taken + 1 →
-    option_map (outcome_of_text limits limits.bytes) l ≡ option_map (λ _. Ok f) r →
+    IsLawful limits → ComesOff taken l r → length taken ≤ limits.bytes →
+    bytes ≤ length taken + 1 → option_map (outcome_of_text limits limits.bytes) l ≡ option_map (λ _. Ok f) r →
     option_map (outcome_of_text limits bytes) l ≡ option_map (λ _. Ok f) r →
     Reads limits (Ok f) l r
 reads-formula limits f taken bytes None None lawful came within few h k = tt
@@ -133,7 +133,8 @@ reads-formula limits f taken bytes (Some text) (Some rest) lawful came within fe
 
 reads-fault : (limits : Limits) (g : GrammarFault) (taken : List ℕ) (l r : Option (List ℕ)) →
     ComesOff taken l r → length taken ≤ limits.bytes →
-    option_map (outcome_of_text limits limits.bytes) l ≡ option_map (λ _. Err g) r → Reads limits (Err (errors.Grammar g)) l r
+    option_map (outcome_of_text limits limits.bytes) l ≡ option_map (λ _. Err g) r →
+    Reads limits (Err (errors.Grammar g)) l r
 reads-fault limits g taken None None came within h = tt
 reads-fault limits g taken None (Some rest) came within h = absurd (cc came)
 reads-fault limits g taken (Some text) None came within h = absurd (cc came)
@@ -148,7 +149,8 @@ reads-fault limits g taken (Some text) (Some rest) came within h = record {
 
 reads-nothing : (limits : Limits) (line : ℕ) (taken : List ℕ) (l r : Option (List ℕ)) →
     ComesOff taken l r → length taken ≤ limits.bytes →
-    option_map (outcome_of_text limits (length taken)) l ≡ option_map (λ _. Err (record { kind = TooLong; line = line })) r → Reads limits (Err errors.ReadFault) l r
+    option_map (outcome_of_text limits (length taken)) l ≡ option_map
+    (λ _. Err (record { kind = TooLong; line = line })) r → Reads limits (Err errors.ReadFault) l r
 reads-nothing limits line taken None None came within h = tt
 reads-nothing limits line taken None (Some rest) came within h = absurd (cc came)
 reads-nothing limits line taken (Some text) None came within h = absurd (cc came)

@@ -1,16 +1,20 @@
 -- how printing goes on, piece by piece
-use Rattle.std.proofs.Common.{◌≡◌, ◌∙◌, ℕ, ◌+◌, ◌≤◌, List, [], ◌∷◌, ◌++◌, drop, refl, sym, arith, subst, Option, Result, Ok, Err, ℤ, IfErr, OnErr, OnOk}
+use Rattle.std.proofs.Common.{◌≡◌, ◌∙◌, ℕ, ◌+◌, ◌≤◌, ◌<◌, List, [], ◌∷◌, ◌++◌, length, drop, get_or, refl, sym, ap, arith, subst, Option, Result, Ok, Err, ℤ, IfErr, OnErr, OnOk}
 use Rattle.std.specs.List.{flat_map}
 use Rattle.std.specs.Fmt.{signed_decimal}
-use Rattle.std.proofs.lemmas.List.{append_assoc, append-nil}
+use Rattle.std.proofs.lemmas.List.{append_assoc, append-nil, drop_more}
 use Rattle.gr_io.specs.Pieces.{Gains, GainsPart, Rose}
 use Rattle.gr_io.specs.declared.sinks.SinkError.{SinkError}
 use Rattle.gr_io.specs.declared.sinks.SinkError.TheVariants.{Fault}
 use Rattle.gr_io.proofs.Parts.{part_of_more}
 use Rattle.gr_text.specs.Printing.{Prints}
 use Rattle.gr_text.proofs.Printing.{prints_flushed, prints_nothing, prints_part, prints_then, prints_then_part}
-use Rattle.gr_dimacs.specs.Printed.{Output, Printed}
+use Rattle.gr_dimacs.specs.Printed.{Output, Printed, output}
 use Rattle.gr_dimacs.proofs.Told.{rose-later}
+
+-- the output of a printer to this sink
+abbrev pub output_at : {K : Type 0} (written : K → Option (List ℕ)) (faults : K → ℕ) → List ℕ → K → Output
+output_at written faults pending sink = output (written sink) pending (faults sink)
 
 -- from one state of the output to another the text is printed
 abbrev pub PrintsFrom : List ℕ → Output → Output → Type 0
@@ -137,3 +141,9 @@ gains-at text o n o' n' h a b = rw (a, b) h
 pub part-at : (text : List ℕ) (o n o' n' : Option (List ℕ)) → GainsPart text o n → o' ≡ o → n' ≡ n →
     GainsPart text o' n'
 part-at text o n o' n' h a b = rw (a, b) h
+
+-- an item of a list, and those behind it
+pub item-behind : {X : Type 0} (items : List X) (i : ℕ) (x : X) → i < length items →
+    x ≡ get_or items i x → drop i items ≡ x ∷ drop (i + 1) items
+item-behind items i x within is =
+    drop_more items i x within ∙ ap (λ y. y ∷ drop (i + 1) items) (sym is)

@@ -166,3 +166,9 @@ staged-count limits v m p q n s goes h =
     staged-on limits (p_word ∷ cnf_word ∷ v ∷ []) h.line n.place.token p q n s goes h.heads refl
     (count-is-fine (is_count n.place.token) limits.clauses (value n.place.token) h.is
     (omega (arith, h.value_is, h.within)))
+
+-- the first two words
+pub staged-words : (limits : Limits) (p q n : Stand) → Goes p q → HasWord p_word p q → Goes q n →
+    HasWord cnf_word q n → Staged limits (p_word ∷ cnf_word ∷ []) p n
+staged-words limits p q n first is_p second is_cnf =
+    staged-cnf limits p q n (staged-p limits p q first is_p) second is_cnf

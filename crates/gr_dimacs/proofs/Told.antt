@@ -8,10 +8,14 @@ use Rattle.gr_text.specs.Places.{Place, Takes, known, taken, limit_of, coming, b
 use Rattle.gr_text.specs.Scans.{Gives, Closes, Fails, Keeps, Skips, SkipFails}
 use Rattle.gr_text.specs.declared.scanners.ScanError.{ScanError}
 use Rattle.gr_text.specs.declared.scanners.ScanError.TheVariants as errors
-use Rattle.gr_dimacs.specs.Stands.{Stand, Goes}
+use Rattle.gr_dimacs.specs.Stands.{Stand, Goes, stand}
 use Rattle.gr_dimacs.specs.Numbers.{begins}
 use Rattle.gr_dimacs.specs.Tokens.{Token, Whole, outside, ending}
 use Rattle.gr_dimacs.specs.Finds.{Read, read_of, told, behind, over, FindFails}
+
+-- a reader of this source stands at this place
+abbrev pub stand_at : {S : Type 0} (left : S → Option (List ℕ)) (faults : S → ℕ) → Place → S → Stand
+stand_at left faults place source = stand place (left source) (faults source)
 
 pub option_map-twice : {A B C : Type 0} (f : B → C) (g : A → B) (o : Option A) →
     option_map f (option_map g o) ≡ option_map (λ x. f (g x)) o

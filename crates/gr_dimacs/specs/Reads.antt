@@ -56,7 +56,8 @@ abbrev pub ReadsThrough : Result Cnf ReadError → List ℕ → List ℕ → Typ
 ReadsThrough (Ok f) text taken = IsReadThrough text taken f
 ReadsThrough (Err failed) text taken = Unit {0}
 
--- bytes of the text were taken, no more than may be; this rest of it is left; and the answer is that of the text
+-- bytes of the text were taken, no more than may be, this rest of it is left, and the answer is that of
+-- the text
 pub record ReadsText (limits : Limits) (answer : Result Cnf ReadError) (text rest : List ℕ) : Type 0
   where
     pub taken : List ℕ

@@ -1,7 +1,7 @@
 use Rattle.std.proofs.Common.{◌∷◌, [], refl}
 use Rattle.gr_dimacs.specs.Grammar.{p_word, cnf_word}
 use Rattle.gr_dimacs.specs.declared.faults.FaultKind.TheVariants.{NoHeader, BadHeader}
-use Rattle.gr_dimacs.proofs.Staged.{first-fails, heads-builder, staged-cnf, staged-count, staged-fails, staged-p, staged-vars}
+use Rattle.gr_dimacs.proofs.Staged.{first-fails, heads-builder, staged-count, staged-fails, staged-p, staged-vars, staged-words}
 use Rattle.gr_dimacs.proofs.Told.{goes-then}
 use Rattle.gr_dimacs.proofs.headers.read_header.Goals as goal
 
@@ -24,26 +24,23 @@ returns-in-Err-header_cnf-clause-answer g c =
 pub returns-in-Err-header_count-clause-goes : goal.returns-in-Err-header_count-clause-goes
 returns-in-Err-header_count-clause-goes g c =
     let limits = c.args.limits.now in
-    let behind_p = staged-p limits _ _ c.header_p.ensures.goes c.in-Ok.ensures.answer in
-    let behind_cnf = staged-cnf limits _ _ _ behind_p c.header_cnf.ensures.goes
-    c.in-Ok-header_cnf.ensures.answer in
+    let behind_cnf = staged-words limits _ _ _ c.header_p.ensures.goes c.in-Ok.ensures.answer
+    c.header_cnf.ensures.goes c.in-Ok-header_cnf.ensures.answer in
     goes-then _ _ _ behind_cnf.goes c.header_count.ensures.goes
 
 pub returns-in-Err-header_count-clause-answer : goal.returns-in-Err-header_count-clause-answer
 returns-in-Err-header_count-clause-answer g c =
     let limits = c.args.limits.now in
-    let behind_p = staged-p limits _ _ c.header_p.ensures.goes c.in-Ok.ensures.answer in
-    let behind_cnf = staged-cnf limits _ _ _ behind_p c.header_cnf.ensures.goes
-    c.in-Ok-header_cnf.ensures.answer in
+    let behind_cnf = staged-words limits _ _ _ c.header_p.ensures.goes c.in-Ok.ensures.answer
+    c.header_cnf.ensures.goes c.in-Ok-header_cnf.ensures.answer in
     staged-fails limits (p_word ∷ cnf_word ∷ []) BadHeader c.in-Err-header_count.failed _ _ _
     behind_cnf c.header_count.ensures.goes refl c.in-Err-header_count.ensures.answer
 
 pub returns-in-Err-header_count-2-clause-goes : goal.returns-in-Err-header_count-2-clause-goes
 returns-in-Err-header_count-2-clause-goes g c =
     let limits = c.args.limits.now in
-    let behind_p = staged-p limits _ _ c.header_p.ensures.goes c.in-Ok.ensures.answer in
-    let behind_cnf = staged-cnf limits _ _ _ behind_p c.header_cnf.ensures.goes
-    c.in-Ok-header_cnf.ensures.answer in
+    let behind_cnf = staged-words limits _ _ _ c.header_p.ensures.goes c.in-Ok.ensures.answer
+    c.header_cnf.ensures.goes c.in-Ok-header_cnf.ensures.answer in
     let behind_vars = staged-vars limits c.in-Ok-header_count.vars _ _ _ behind_cnf
     c.header_count.ensures.goes c.in-Ok-header_count.ensures.answer in
     goes-then _ _ _ behind_vars.goes c.header_count-2.ensures.goes
@@ -51,9 +48,8 @@ returns-in-Err-header_count-2-clause-goes g c =
 pub returns-in-Err-header_count-2-clause-answer : goal.returns-in-Err-header_count-2-clause-answer
 returns-in-Err-header_count-2-clause-answer g c =
     let limits = c.args.limits.now in
-    let behind_p = staged-p limits _ _ c.header_p.ensures.goes c.in-Ok.ensures.answer in
-    let behind_cnf = staged-cnf limits _ _ _ behind_p c.header_cnf.ensures.goes
-    c.in-Ok-header_cnf.ensures.answer in
+    let behind_cnf = staged-words limits _ _ _ c.header_p.ensures.goes c.in-Ok.ensures.answer
+    c.header_cnf.ensures.goes c.in-Ok-header_cnf.ensures.answer in
     let behind_vars = staged-vars limits c.in-Ok-header_count.vars _ _ _ behind_cnf
     c.header_count.ensures.goes c.in-Ok-header_count.ensures.answer in
     staged-fails limits _ BadHeader c.in-Err-header_count-2.failed _ _ _ behind_vars
@@ -62,9 +58,8 @@ returns-in-Err-header_count-2-clause-answer g c =
 pub returns-clause-goes : goal.returns-clause-goes
 returns-clause-goes g c =
     let limits = c.args.limits.now in
-    let behind_p = staged-p limits _ _ c.header_p.ensures.goes c.in-Ok.ensures.answer in
-    let behind_cnf = staged-cnf limits _ _ _ behind_p c.header_cnf.ensures.goes
-    c.in-Ok-header_cnf.ensures.answer in
+    let behind_cnf = staged-words limits _ _ _ c.header_p.ensures.goes c.in-Ok.ensures.answer
+    c.header_cnf.ensures.goes c.in-Ok-header_cnf.ensures.answer in
     let behind_vars = staged-vars limits c.in-Ok-header_count.vars _ _ _ behind_cnf
     c.header_count.ensures.goes c.in-Ok-header_count.ensures.answer in
     let behind_count = staged-count limits _ c.in-Ok-header_count-2.count _ _ _ behind_vars
@@ -74,9 +69,8 @@ returns-clause-goes g c =
 pub returns-clause-answer : goal.returns-clause-answer
 returns-clause-answer g c =
     let limits = c.args.limits.now in
-    let behind_p = staged-p limits _ _ c.header_p.ensures.goes c.in-Ok.ensures.answer in
-    let behind_cnf = staged-cnf limits _ _ _ behind_p c.header_cnf.ensures.goes
-    c.in-Ok-header_cnf.ensures.answer in
+    let behind_cnf = staged-words limits _ _ _ c.header_p.ensures.goes c.in-Ok.ensures.answer
+    c.header_cnf.ensures.goes c.in-Ok-header_cnf.ensures.answer in
     let behind_vars = staged-vars limits c.in-Ok-header_count.vars _ _ _ behind_cnf
     c.header_count.ensures.goes c.in-Ok-header_count.ensures.answer in
     let behind_count = staged-count limits _ c.in-Ok-header_count-2.count _ _ _ behind_vars

@@ -1,19 +1,17 @@
 use Rattle.std.proofs.Common.{◌≡◌, ◌∙◌, ap, rules, sym}
 use Rattle.gr_dimacs.specs.Reads.{Reads}
-use Rattle.gr_dimacs.specs.Stands.{stand}
 use Rattle.gr_text.specs.Places.{at_start}
 use Rattle.gr_dimacs.proofs.Decided.{decided-reads, reads-at}
+use Rattle.gr_dimacs.proofs.Told.{stand_at}
 use Rattle.gr_dimacs.proofs.readers.read.Goals as goal
 
 pub returns-clause-answer : goal.returns-clause-answer
 returns-clause-answer g c =
     let left = g.S.Source.left in
-    let faults = g.S.Source.faults in
+    let here = stand_at left g.S.Source.faults in
     let limits = c.args.limits.now in
-    let p = stand c.over-scanner.result.held (left c.over-scanner.result.source.now)
-    (faults c.over-scanner.result.source.now) in
-    let n = stand c.read_scanned.new.scanner.held (left c.read_scanned.new.scanner.source.now)
-    (faults c.read_scanned.new.scanner.source.now) in
+    let p = here c.over-scanner.result.held c.over-scanner.result.source.now in
+    let n = here c.read_scanned.new.scanner.held c.read_scanned.new.scanner.source.now in
     let start : p.place ≡ at_start limits.bytes = c.over-scanner.ensures.held
     ∙ c.in-Ok.ensures.ok in
     let reads : Reads limits c.read_scanned.result p.left n.left =

@@ -1,9 +1,8 @@
 use Rattle.std.proofs.Common.{◌≤◌, ◌∙◌, sym, arith}
 use Rattle.gr_text.specs.Places.{known, limit_of}
 use Rattle.gr_dimacs.specs.Faults.{Fine}
-use Rattle.gr_dimacs.specs.Stands.{stand}
 use Rattle.gr_dimacs.proofs.Reading.{closes-answers, end-answers, fault-undecided, grown, judged-as-number, token-goes-on}
-use Rattle.gr_dimacs.proofs.Told.{goes-then}
+use Rattle.gr_dimacs.proofs.Told.{goes-then, stand_at}
 use Rattle.gr_dimacs.proofs.readers.read_body.Goals as goal
 
 pub returns-in-Ok-End-clause-goes : goal.returns-in-Ok-End-clause-goes
@@ -36,28 +35,20 @@ returns-in-Err-OutOfMemory-take-clause-goes g c =
 
 pub returns-in-Err-ReadFault-clause-answer : goal.returns-in-Err-ReadFault-clause-answer
 returns-in-Err-ReadFault-clause-answer g c =
-    let left = g.S.Source.left in
-    let faults = g.S.Source.faults in
-    let p = stand c.args.scanner.now.held (left c.args.scanner.now.source.now)
-    (faults c.args.scanner.now.source.now) in
-    let q = stand c.tokens.scanner.held (left c.tokens.scanner.source.now)
-    (faults c.tokens.scanner.source.now) in
-    let n = stand c.next_token.new.scanner.held (left c.next_token.new.scanner.source.now)
-    (faults c.next_token.new.scanner.source.now) in
+    let here = stand_at g.S.Source.left g.S.Source.faults in
+    let p = here c.args.scanner.now.held c.args.scanner.now.source.now in
+    let q = here c.tokens.scanner.held c.tokens.scanner.source.now in
+    let n = here c.next_token.new.scanner.held c.next_token.new.scanner.source.now in
     let fails = rw c.in-Err-ReadFault.field-0-is at c.in-Err-ReadFault.ensures.answer in
     fault-undecided c.args.builder c.tokens.builder p q n c.tokens.invariant.comes
     c.next_token.ensures.goes.keeps.grows fails
 
 pub returns-then-closes-clause-answer : goal.returns-then-closes-clause-answer
 returns-then-closes-clause-answer g c =
-    let left = g.S.Source.left in
-    let faults = g.S.Source.faults in
-    let p = stand c.args.scanner.now.held (left c.args.scanner.now.source.now)
-    (faults c.args.scanner.now.source.now) in
-    let q = stand c.tokens.scanner.held (left c.tokens.scanner.source.now)
-    (faults c.tokens.scanner.source.now) in
-    let n = stand c.next_token.new.scanner.held (left c.next_token.new.scanner.source.now)
-    (faults c.next_token.new.scanner.source.now) in
+    let here = stand_at g.S.Source.left g.S.Source.faults in
+    let p = here c.args.scanner.now.held c.args.scanner.now.source.now in
+    let q = here c.tokens.scanner.held c.tokens.scanner.source.now in
+    let n = here c.next_token.new.scanner.held c.next_token.new.scanner.source.now in
     let finds = rw c.in-Ok-Token.field-0-is at c.in-Ok-Token.ensures.answer in
     let goes = c.next_token.ensures.goes in
     let within : known n.place ≤ limit_of p.place =
@@ -70,14 +61,10 @@ returns-then-closes-clause-answer g c =
 
 pub tokens-preserved : goal.tokens-preserved
 tokens-preserved g c =
-    let left = g.S.Source.left in
-    let faults = g.S.Source.faults in
-    let p = stand c.args.scanner.now.held (left c.args.scanner.now.source.now)
-    (faults c.args.scanner.now.source.now) in
-    let q = stand c.tokens.scanner.held (left c.tokens.scanner.source.now)
-    (faults c.tokens.scanner.source.now) in
-    let n = stand c.next_token.new.scanner.held (left c.next_token.new.scanner.source.now)
-    (faults c.next_token.new.scanner.source.now) in
+    let here = stand_at g.S.Source.left g.S.Source.faults in
+    let p = here c.args.scanner.now.held c.args.scanner.now.source.now in
+    let q = here c.tokens.scanner.held c.tokens.scanner.source.now in
+    let n = here c.next_token.new.scanner.held c.next_token.new.scanner.source.now in
     let i = c.tokens.invariant in
     let goes = c.next_token.ensures.goes in
     let finds = rw c.in-Ok-Token.field-0-is at c.in-Ok-Token.ensures.answer in
@@ -96,14 +83,10 @@ tokens-preserved g c =
 
 pub returns-in-Ok-End-clause-answer : goal.returns-in-Ok-End-clause-answer
 returns-in-Ok-End-clause-answer g c =
-    let left = g.S.Source.left in
-    let faults = g.S.Source.faults in
-    let p = stand c.args.scanner.now.held (left c.args.scanner.now.source.now)
-    (faults c.args.scanner.now.source.now) in
-    let q = stand c.tokens.scanner.held (left c.tokens.scanner.source.now)
-    (faults c.tokens.scanner.source.now) in
-    let n = stand c.next_token.new.scanner.held (left c.next_token.new.scanner.source.now)
-    (faults c.next_token.new.scanner.source.now) in
+    let here = stand_at g.S.Source.left g.S.Source.faults in
+    let p = here c.args.scanner.now.held c.args.scanner.now.source.now in
+    let q = here c.tokens.scanner.held c.tokens.scanner.source.now in
+    let n = here c.next_token.new.scanner.held c.next_token.new.scanner.source.now in
     let finds = rw c.in-Ok-End.field-0-is at c.in-Ok-End.ensures.answer in
     let goes = c.next_token.ensures.goes in
     let within : known n.place ≤ limit_of p.place =

@@ -1,46 +1,35 @@
 use Rattle.std.proofs.Common.{◌≤◌, ◌∙◌, arith}
 use Rattle.gr_text.specs.Places.{known}
-use Rattle.gr_dimacs.specs.Stands.{stand}
-use Rattle.gr_dimacs.proofs.Told.{comment-is, fails-later, goes-then, onward-comment, onward-goes, onward-line, onward-next, rose-later, told-skip-fails, went}
+use Rattle.gr_dimacs.proofs.Told.{comment-is, fails-later, goes-then, onward-comment, onward-goes, onward-line, onward-next, rose-later, stand_at, told-skip-fails, went}
 use Rattle.gr_dimacs.proofs.tokens.next_token.Goals as goal
 
 pub returns-then-not-first-clause-goes : goal.returns-then-not-first-clause-goes
 returns-then-not-first-clause-goes g c =
-    let left = g.S.Source.left in
-    let faults = g.S.Source.faults in
-    let n = stand c.next.new.self.held (left c.next.new.self.source.now)
-    (faults c.next.new.self.source.now) in
+    let here = stand_at g.S.Source.left g.S.Source.faults in
+    let n = here c.next.new.self.held c.next.new.self.source.now in
     onward-next _ _ n c.found.invariant.onward c.next.ensures.keeps c.next.ensures.takes
     c.next.ensures.grows
 
 pub returns-in-Ok-End-clause-goes : goal.returns-in-Ok-End-clause-goes
 returns-in-Ok-End-clause-goes g c =
-    let left = g.S.Source.left in
-    let faults = g.S.Source.faults in
-    let n = stand c.next.new.self.held (left c.next.new.self.source.now)
-    (faults c.next.new.self.source.now) in
+    let here = stand_at g.S.Source.left g.S.Source.faults in
+    let n = here c.next.new.self.held c.next.new.self.source.now in
     onward-next _ _ n c.found.invariant.onward c.next.ensures.keeps c.next.ensures.takes
     c.next.ensures.grows
 
 pub returns-in-Err-clause-goes : goal.returns-in-Err-clause-goes
 returns-in-Err-clause-goes g c =
-    let left = g.S.Source.left in
-    let faults = g.S.Source.faults in
-    let n = stand c.next.new.self.held (left c.next.new.self.source.now)
-    (faults c.next.new.self.source.now) in
+    let here = stand_at g.S.Source.left g.S.Source.faults in
+    let n = here c.next.new.self.held c.next.new.self.source.now in
     onward-next _ _ n c.found.invariant.onward c.next.ensures.keeps c.next.ensures.takes
     c.next.ensures.grows
 
 pub found-preserved-in-Ok : goal.found-preserved-in-Ok
 found-preserved-in-Ok g c =
-    let left = g.S.Source.left in
-    let faults = g.S.Source.faults in
-    let q = stand c.found.scanner.held (left c.found.scanner.source.now)
-    (faults c.found.scanner.source.now) in
-    let n = stand c.next.new.self.held (left c.next.new.self.source.now)
-    (faults c.next.new.self.source.now) in
-    let o = stand c.skip_line.new.self.held (left c.skip_line.new.self.source.now)
-    (faults c.skip_line.new.self.source.now) in
+    let here = stand_at g.S.Source.left g.S.Source.faults in
+    let q = here c.found.scanner.held c.found.scanner.source.now in
+    let n = here c.next.new.self.held c.next.new.self.source.now in
+    let o = here c.skip_line.new.self.held c.skip_line.new.self.source.now in
     let step = went q n c.next.ensures.keeps c.next.ensures.takes c.next.ensures.grows in
     let skip = went n o c.skip_line.ensures.keeps c.skip_line.ensures.takes c.skip_line.ensures.grows in
     let gives = rw c.in-Ok-Token.field-0-is at c.in-Ok-Token.ensures.ok in
@@ -57,12 +46,9 @@ found-preserved-in-Ok g c =
 
 pub found-preserved : goal.found-preserved
 found-preserved g c =
-    let left = g.S.Source.left in
-    let faults = g.S.Source.faults in
-    let q = stand c.found.scanner.held (left c.found.scanner.source.now)
-    (faults c.found.scanner.source.now) in
-    let n = stand c.next.new.self.held (left c.next.new.self.source.now)
-    (faults c.next.new.self.source.now) in
+    let here = stand_at g.S.Source.left g.S.Source.faults in
+    let q = here c.found.scanner.held c.found.scanner.source.now in
+    let n = here c.next.new.self.held c.next.new.self.source.now in
     let step = went q n c.next.ensures.keeps c.next.ensures.takes c.next.ensures.grows in
     let gives = rw c.in-Ok-LineEnd.field-0-is at c.in-Ok-LineEnd.ensures.ok in
     let gone = rw c.in-Ok-LineEnd.field-0-is at c.in-Ok-LineEnd.ensures.advances in
@@ -73,28 +59,20 @@ found-preserved g c =
 
 pub returns-in-Err-skip_line-clause-goes : goal.returns-in-Err-skip_line-clause-goes
 returns-in-Err-skip_line-clause-goes g c =
-    let left = g.S.Source.left in
-    let faults = g.S.Source.faults in
-    let q = stand c.found.scanner.held (left c.found.scanner.source.now)
-    (faults c.found.scanner.source.now) in
-    let n = stand c.next.new.self.held (left c.next.new.self.source.now)
-    (faults c.next.new.self.source.now) in
-    let o = stand c.skip_line.new.self.held (left c.skip_line.new.self.source.now)
-    (faults c.skip_line.new.self.source.now) in
+    let here = stand_at g.S.Source.left g.S.Source.faults in
+    let q = here c.found.scanner.held c.found.scanner.source.now in
+    let n = here c.next.new.self.held c.next.new.self.source.now in
+    let o = here c.skip_line.new.self.held c.skip_line.new.self.source.now in
     let step = went q n c.next.ensures.keeps c.next.ensures.takes c.next.ensures.grows in
     let skip = went n o c.skip_line.ensures.keeps c.skip_line.ensures.takes c.skip_line.ensures.grows in
     goes-then _ n o (onward-goes _ q n c.found.invariant.onward step) skip
 
 pub returns-in-Err-skip_line-clause-answer : goal.returns-in-Err-skip_line-clause-answer
 returns-in-Err-skip_line-clause-answer g c =
-    let left = g.S.Source.left in
-    let faults = g.S.Source.faults in
-    let q = stand c.found.scanner.held (left c.found.scanner.source.now)
-    (faults c.found.scanner.source.now) in
-    let n = stand c.next.new.self.held (left c.next.new.self.source.now)
-    (faults c.next.new.self.source.now) in
-    let o = stand c.skip_line.new.self.held (left c.skip_line.new.self.source.now)
-    (faults c.skip_line.new.self.source.now) in
+    let here = stand_at g.S.Source.left g.S.Source.faults in
+    let q = here c.found.scanner.held c.found.scanner.source.now in
+    let n = here c.next.new.self.held c.next.new.self.source.now in
+    let o = here c.skip_line.new.self.held c.skip_line.new.self.source.now in
     let gives = rw c.in-Ok-Token.field-0-is at c.in-Ok-Token.ensures.ok in
     let comment = comment-is c.in-Ok-Token.first c.begins_comment.result c.token.result.now
     n.place.token c.if-not-first.false c.begins_comment.ensures c.if-not-begins_comment.false

@@ -1,18 +1,14 @@
 use Rattle.std.proofs.Common.{length}
 use Rattle.std.specs.List.{flat_map}
 use Rattle.gr_dimacs.specs.Canonical.{clause_text, header_text}
-use Rattle.gr_dimacs.specs.Printed.{output}
-use Rattle.gr_dimacs.proofs.PrintedSteps.{fails-more, printed-then}
+use Rattle.gr_dimacs.proofs.PrintedSteps.{fails-more, output_at, printed-then}
 use Rattle.gr_dimacs.proofs.writers.print_formula.Goals as goal
 
 pub returns-in-Err-clause-printed : goal.returns-in-Err-clause-printed
 returns-in-Err-clause-printed g c =
-    let written = g.K.Sink.written in
-    let faults = g.K.Sink.faults in
-    let p = output (written c.args.printer.now.sink.now) c.args.printer.now.pending
-    (faults c.args.printer.now.sink.now) in
-    let q = output (written c.print_header.new.printer.sink.now) c.print_header.new.printer.pending
-    (faults c.print_header.new.printer.sink.now) in
+    let here = output_at g.K.Sink.written g.K.Sink.faults in
+    let p = here c.args.printer.now.pending c.args.printer.now.sink.now in
+    let q = here c.print_header.new.printer.pending c.print_header.new.printer.sink.now in
     let f = c.args.formula.now in
     let header = header_text f.vars (length f.clauses) in
     let clauses = flat_map clause_text f.clauses in
@@ -22,14 +18,10 @@ returns-in-Err-clause-printed g c =
 
 pub returns-clause-printed : goal.returns-clause-printed
 returns-clause-printed g c =
-    let written = g.K.Sink.written in
-    let faults = g.K.Sink.faults in
-    let p = output (written c.args.printer.now.sink.now) c.args.printer.now.pending
-    (faults c.args.printer.now.sink.now) in
-    let q = output (written c.print_header.new.printer.sink.now) c.print_header.new.printer.pending
-    (faults c.print_header.new.printer.sink.now) in
-    let n = output (written c.print_clauses.new.printer.sink.now)
-    c.print_clauses.new.printer.pending (faults c.print_clauses.new.printer.sink.now) in
+    let here = output_at g.K.Sink.written g.K.Sink.faults in
+    let p = here c.args.printer.now.pending c.args.printer.now.sink.now in
+    let q = here c.print_header.new.printer.pending c.print_header.new.printer.sink.now in
+    let n = here c.print_clauses.new.printer.pending c.print_clauses.new.printer.sink.now in
     let f = c.args.formula.now in
     let header = header_text f.vars (length f.clauses) in
     let clauses = flat_map clause_text f.clauses in

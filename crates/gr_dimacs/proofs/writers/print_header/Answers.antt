@@ -1,17 +1,13 @@
 use Rattle.std.proofs.Common.{[], ◌∷◌, ◌++◌, Err}
 use Rattle.std.specs.Fmt.{decimal}
-use Rattle.gr_dimacs.specs.Printed.{output}
-use Rattle.gr_dimacs.proofs.PrintedSteps.{fails-more, printed-then}
+use Rattle.gr_dimacs.proofs.PrintedSteps.{fails-more, output_at, printed-then}
 use Rattle.gr_dimacs.proofs.writers.print_header.Goals as goal
 
 pub returns-in-Err-clause-printed : goal.returns-in-Err-clause-printed
 returns-in-Err-clause-printed g c =
-    let written = g.K.Sink.written in
-    let faults = g.K.Sink.faults in
-    let p = output (written c.args.printer.now.sink.now) c.args.printer.now.pending
-    (faults c.args.printer.now.sink.now) in
-    let q = output (written c.bytes.new.self.sink.now) c.bytes.new.self.pending
-    (faults c.bytes.new.self.sink.now) in
+    let here = output_at g.K.Sink.written g.K.Sink.faults in
+    let p = here c.args.printer.now.pending c.args.printer.now.sink.now in
+    let q = here c.bytes.new.self.pending c.bytes.new.self.sink.now in
     let first = 112 ∷ 32 ∷ 99 ∷ 110 ∷ 102 ∷ 32 ∷ [] in
     let second = decimal c.args.vars ++ 32 ∷ [] in
     let third = decimal c.args.count ++ 10 ∷ [] in
@@ -20,14 +16,10 @@ returns-in-Err-clause-printed g c =
 
 pub returns-in-Err-print_count-clause-printed : goal.returns-in-Err-print_count-clause-printed
 returns-in-Err-print_count-clause-printed g c =
-    let written = g.K.Sink.written in
-    let faults = g.K.Sink.faults in
-    let p = output (written c.args.printer.now.sink.now) c.args.printer.now.pending
-    (faults c.args.printer.now.sink.now) in
-    let q = output (written c.bytes.new.self.sink.now) c.bytes.new.self.pending
-    (faults c.bytes.new.self.sink.now) in
-    let n = output (written c.print_count.new.printer.sink.now) c.print_count.new.printer.pending
-    (faults c.print_count.new.printer.sink.now) in
+    let here = output_at g.K.Sink.written g.K.Sink.faults in
+    let p = here c.args.printer.now.pending c.args.printer.now.sink.now in
+    let q = here c.bytes.new.self.pending c.bytes.new.self.sink.now in
+    let n = here c.print_count.new.printer.pending c.print_count.new.printer.sink.now in
     let first = 112 ∷ 32 ∷ 99 ∷ 110 ∷ 102 ∷ 32 ∷ [] in
     let second = decimal c.args.vars ++ 32 ∷ [] in
     let third = decimal c.args.count ++ 10 ∷ [] in
@@ -38,16 +30,11 @@ returns-in-Err-print_count-clause-printed g c =
 
 pub returns-clause-printed : goal.returns-clause-printed
 returns-clause-printed g c =
-    let written = g.K.Sink.written in
-    let faults = g.K.Sink.faults in
-    let p = output (written c.args.printer.now.sink.now) c.args.printer.now.pending
-    (faults c.args.printer.now.sink.now) in
-    let q = output (written c.bytes.new.self.sink.now) c.bytes.new.self.pending
-    (faults c.bytes.new.self.sink.now) in
-    let n = output (written c.print_count.new.printer.sink.now) c.print_count.new.printer.pending
-    (faults c.print_count.new.printer.sink.now) in
-    let o = output (written c.print_count-2.new.printer.sink.now)
-    c.print_count-2.new.printer.pending (faults c.print_count-2.new.printer.sink.now) in
+    let here = output_at g.K.Sink.written g.K.Sink.faults in
+    let p = here c.args.printer.now.pending c.args.printer.now.sink.now in
+    let q = here c.bytes.new.self.pending c.bytes.new.self.sink.now in
+    let n = here c.print_count.new.printer.pending c.print_count.new.printer.sink.now in
+    let o = here c.print_count-2.new.printer.pending c.print_count-2.new.printer.sink.now in
     let first = 112 ∷ 32 ∷ 99 ∷ 110 ∷ 102 ∷ 32 ∷ [] in
     let second = decimal c.args.vars ++ 32 ∷ [] in
     let third = decimal c.args.count ++ 10 ∷ [] in

@@ -1,32 +1,24 @@
 use Rattle.std.proofs.Common.{[], ◌∷◌, arith}
 use Rattle.std.proofs.lemmas.Int.{ints}
 use Rattle.gr_logic.specs.Literals.{number_of}
-use Rattle.gr_dimacs.specs.Printed.{output}
-use Rattle.gr_dimacs.proofs.PrintedSteps.{by-value, number-fails, number-printed, printed-by, printed-then}
+use Rattle.gr_dimacs.proofs.PrintedSteps.{by-value, number-fails, number-printed, output_at, printed-by, printed-then}
 use Rattle.std.specs.Fmt.{signed_decimal}
 use Rattle.gr_dimacs.proofs.writers.print_literal.Goals as goal
 
 pub returns-in-Err-clause-printed : goal.returns-in-Err-clause-printed
 returns-in-Err-clause-printed g c =
-    let written = g.K.Sink.written in
-    let faults = g.K.Sink.faults in
-    let p = output (written c.args.printer.now.sink.now) c.args.printer.now.pending
-    (faults c.args.printer.now.sink.now) in
-    let q = output (written c.number-2.new.self.sink.now) c.number-2.new.self.pending
-    (faults c.number-2.new.self.sink.now) in
+    let here = output_at g.K.Sink.written g.K.Sink.faults in
+    let p = here c.args.printer.now.pending c.args.printer.now.sink.now in
+    let q = here c.number-2.new.self.pending c.number-2.new.self.sink.now in
     number-fails c.in-Err.failed _ (number_of c.args.lit) (32 ∷ []) p q c.in-Err.ensures.err
     c.in-Err.ensures.fault (by-value c.number.ensures (omega (arith, ints)))
 
 pub returns-clause-printed : goal.returns-clause-printed
 returns-clause-printed g c =
-    let written = g.K.Sink.written in
-    let faults = g.K.Sink.faults in
-    let p = output (written c.args.printer.now.sink.now) c.args.printer.now.pending
-    (faults c.args.printer.now.sink.now) in
-    let q = output (written c.number-2.new.self.sink.now) c.number-2.new.self.pending
-    (faults c.number-2.new.self.sink.now) in
-    let n = output (written c.bytes.new.self.sink.now) c.bytes.new.self.pending
-    (faults c.bytes.new.self.sink.now) in
+    let here = output_at g.K.Sink.written g.K.Sink.faults in
+    let p = here c.args.printer.now.pending c.args.printer.now.sink.now in
+    let q = here c.number-2.new.self.pending c.number-2.new.self.sink.now in
+    let n = here c.bytes.new.self.pending c.bytes.new.self.sink.now in
     let value = number_of c.args.lit in
     printed-then c.bytes.result (signed_decimal value) (32 ∷ []) p q n
     (number-printed _ value p q c.in-Ok.ensures.ok

@@ -1,18 +1,15 @@
 use Rattle.std.proofs.Common.{ap, rules, sym}
 use Rattle.gr_dimacs.specs.Canonical.{canonical_text}
-use Rattle.gr_dimacs.specs.Printed.{output}
-use Rattle.gr_dimacs.proofs.PrintedSteps.{failed-part, flushed-all, flushed-part, gains-at, part-at}
+use Rattle.gr_dimacs.proofs.PrintedSteps.{failed-part, flushed-all, flushed-part, gains-at, output_at, part-at}
 use Rattle.gr_dimacs.proofs.writers.write.Goals as goal
 
 pub returns-in-Err-clause-err : goal.returns-in-Err-clause-err
 returns-in-Err-clause-err g c =
     let written = g.K.Sink.written in
-    let faults = g.K.Sink.faults in
+    let here = output_at written g.K.Sink.faults in
     let text = canonical_text c.args.formula.now in
-    let p = output (written c.new-printer.result.sink.now) c.new-printer.result.pending
-    (faults c.new-printer.result.sink.now) in
-    let q = output (written c.print_formula.new.printer.sink.now)
-    c.print_formula.new.printer.pending (faults c.print_formula.new.printer.sink.now) in
+    let p = here c.new-printer.result.pending c.new-printer.result.sink.now in
+    let q = here c.print_formula.new.printer.pending c.print_formula.new.printer.sink.now in
     part-at text p.written q.written _ _
     (failed-part c.in-Err.failed text p q c.new-printer.ensures.empty c.in-Err.ensures.printed)
     (ap written (sym c.new-printer.ensures.sink)) (search rules)
@@ -20,12 +17,10 @@ returns-in-Err-clause-err g c =
 pub returns-in-Ok-flush-clause-ok : goal.returns-in-Ok-flush-clause-ok
 returns-in-Ok-flush-clause-ok g c =
     let written = g.K.Sink.written in
-    let faults = g.K.Sink.faults in
+    let here = output_at written g.K.Sink.faults in
     let text = canonical_text c.args.formula.now in
-    let p = output (written c.new-printer.result.sink.now) c.new-printer.result.pending
-    (faults c.new-printer.result.sink.now) in
-    let q = output (written c.print_formula.new.printer.sink.now)
-    c.print_formula.new.printer.pending (faults c.print_formula.new.printer.sink.now) in
+    let p = here c.new-printer.result.pending c.new-printer.result.sink.now in
+    let q = here c.print_formula.new.printer.pending c.print_formula.new.printer.sink.now in
     let last = written c.flush.new.self.sink.now in
     gains-at text p.written last _ _
     (flushed-all text p q last c.new-printer.ensures.empty c.in-Ok.ensures.printed
@@ -35,12 +30,10 @@ returns-in-Ok-flush-clause-ok g c =
 pub returns-in-Err-flush-clause-err : goal.returns-in-Err-flush-clause-err
 returns-in-Err-flush-clause-err g c =
     let written = g.K.Sink.written in
-    let faults = g.K.Sink.faults in
+    let here = output_at written g.K.Sink.faults in
     let text = canonical_text c.args.formula.now in
-    let p = output (written c.new-printer.result.sink.now) c.new-printer.result.pending
-    (faults c.new-printer.result.sink.now) in
-    let q = output (written c.print_formula.new.printer.sink.now)
-    c.print_formula.new.printer.pending (faults c.print_formula.new.printer.sink.now) in
+    let p = here c.new-printer.result.pending c.new-printer.result.sink.now in
+    let q = here c.print_formula.new.printer.pending c.print_formula.new.printer.sink.now in
     let last = written c.flush.new.self.sink.now in
     part-at text p.written last _ _
     (flushed-part text p q last c.new-printer.ensures.empty c.in-Ok.ensures.printed
