@@ -1,6 +1,6 @@
 -- clauses that are copied to new lists, one by one
-use Rattle.std.proofs.Common.{◌≡◌, ℕ, ◌+◌, ◌≤◌, Bool, true, false, List, [], ◌∷◌, ◌++◌, length, Option, Some, None, cond, nat_eq, refl, sym, ap, ◌∙◌, arith}
-use Rattle.std.specs.Prelude.{option_map}
+use Rattle.std.proofs.Common.{◌≡◌, ℕ, ◌+◌, ◌≤◌, Bool, true, false, List, [], ◌∷◌, ◌++◌, length, Option, Some, None, cond, nat_eq, get_or, refl, sym, ap, ◌∙◌, arith}
+use Rattle.std.specs.Prelude.{option_map, is_some, All}
 use Rattle.std.specs.Map.{lookup}
 use Rattle.std.specs.Cmp.{nat_cmp_total}
 use Rattle.std.specs.FinMap as finite
@@ -9,9 +9,12 @@ use Rattle.std.proofs.lemmas.Bool.Decides.{nat_tests}
 use Rattle.std.proofs.lemmas.List.{length-append}
 use Rattle.gr_logic.specs.Literals.{Literal}
 use Rattle.gr_logic.specs.Log.{Clauses}
-use Rattle.gr_check.specs.Runs.{lits_of, clauses_of, RunsWithin}
-use Rattle.gr_check.specs.declared.pool.Run.{Run}
-use Rattle.gr_check.proofs.RunMaps.{get-clauses_of, lits_of-last, lits_of-found, Updated}
+use Rattle.gr_check.specs.Runs.{lits_of, clauses_of, clauses_in, IsRunWithin, RunsWithin}
+use Rattle.gr_check.specs.Entries.{near_entries, Updated}
+use Rattle.gr_check.specs.declared.runs.Run.{Run}
+use Rattle.gr_check.proofs.RunMaps.{get-clauses_of, lits_of-last, lits_of-found}
+use Rattle.gr_check.proofs.Entries.{or_else, lookup-entries}
+use Rattle.gr_check.proofs.Moves.{same_places, slot_within}
 
 -- the first, or else the second
 abbrev pub either : Option (List Literal) → Option (List Literal) → Option (List Literal)
@@ -26,10 +29,63 @@ IsCopied clauses old_lits to_come lits runs =
     ≡ either (option_map (lits_of lits) (lookup (nat_eq q) runs))
     (option_map (lits_of old_lits) (lookup (nat_eq q) to_come))
 
--- before the first
-pub IsCopied-none : (lits : List Literal) (runs : List (ℕ × Run))
-    → IsCopied (clauses_of lits runs) lits runs [] []
-IsCopied-none lits runs q = get-clauses_of lits runs q
+-- a function of what is found first
+spread : (f : Run → List Literal) (first second : Option Run)
+    → option_map f (or_else first second) ≡ either (option_map f first) (option_map f second)
+spread f None second = refl
+spread f (Some run) second = refl
+
+-- nothing comes second
+alone : (first : Option Run) → or_else first None ≡ first
+alone None = refl
+alone (Some run) = refl
+
+-- the runs of the vector are copied, and those of the map are not
+pub IsCopied-near : (old_lits lits : List Literal) (old new : List (Option Run)) (far : List (ℕ × Run))
+    → clauses_in lits new ≡ clauses_in old_lits old
+    → IsCopied (clauses_of old_lits (near_entries 0 old ++ far)) old_lits far lits (near_entries 0 new ++ [])
+IsCopied-near old_lits lits old new far same q =
+    get-clauses_of old_lits (near_entries 0 old ++ far) q
+    ∙ ap (option_map (lits_of old_lits)) (lookup-entries old far q)
+    ∙ spread (lits_of old_lits) (get_or old q None) (lookup (nat_eq q) far)
+    ∙ ap (λ x. either x (option_map (lits_of old_lits) (lookup (nat_eq q) far)))
+    (sym (same_places old_lits lits old new same q)
+    ∙ ap (option_map (lits_of lits)) (sym (lookup-entries new [] q ∙ alone (get_or new q None))))
+
+-- the runs of the vector end within the literals
+pub RunsWithin-near : (count : ℕ) (slots : List (Option Run)) → All (IsRunWithin count) slots
+    → RunsWithin count (near_entries 0 slots ++ [])
+RunsWithin-near count slots all q run found =
+    let here : get_or slots q None ≡ Some run =
+    sym (lookup-entries slots [] q ∙ alone (get_or slots q None)) ∙ found in
+    rw here at (slot_within count slots all q)
+
+-- an id of the map that the vector has too
+pub IsCopied-skip : (clauses : Clauses) (old_lits lits : List Literal) (slots : List (Option Run))
+    (far to_come : List (ℕ × Run)) (id : ℕ) (run : Run)
+    → is_some (get_or slots id None) ≡ true
+    → IsCopied clauses old_lits ((id, run) ∷ to_come) lits (near_entries 0 slots ++ far)
+    → IsCopied clauses old_lits to_come lits (near_entries 0 slots ++ far)
+IsCopied-skip clauses old_lits lits slots far to_come id run there copied q =
+    copied q
+    ∙ (elim (nat_eq q id) as (λ b. nat_eq q id ≡ b
+    → either (option_map (lits_of lits) (lookup (nat_eq q) (near_entries 0 slots ++ far)))
+    (option_map (lits_of old_lits) (cond b (Some run) (lookup (nat_eq q) to_come)))
+    ≡ either (option_map (lits_of lits) (lookup (nat_eq q) (near_entries 0 slots ++ far)))
+    (option_map (lits_of old_lits) (lookup (nat_eq q) to_come))) [
+      | true ↦ λ same.
+          let here : q ≡ id = grind (arith, nat_tests) in
+          rw (lookup-entries slots far q)
+          (first_alone (get_or slots q None) (lookup (nat_eq q) far)
+          (ap (λ k. is_some (get_or slots k None)) here ∙ there) _ _)
+      | false ↦ λ apart. refl
+    ] refl)
+  where
+    first_alone : (first second : Option Run) → is_some first ≡ true → (x y : Option (List Literal))
+        → either (option_map (lits_of lits) (or_else first second)) x
+        ≡ either (option_map (lits_of lits) (or_else first second)) y
+    first_alone None second is x y = absurd (cc)
+    first_alone (Some found) second is x y = refl
 
 -- after the last
 pub IsCopied-all : (clauses : Clauses) (old_lits lits : List Literal) (runs : List (ℕ × Run))

@@ -1,3 +1,4 @@
+pub mod Entries
 pub mod RunMaps
 pub mod Reading
 pub mod Negations
@@ -6,3 +7,4 @@ pub mod Additions
 pub mod Bounds
 pub mod Compacting
 pub mod Hints
+pub mod Moves

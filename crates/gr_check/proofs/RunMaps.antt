@@ -10,7 +10,8 @@ use Rattle.std.proofs.lemmas.Bool.Decides.{nat_tests}
 use Rattle.std.proofs.lemmas.List.{length-drop, drop_at, take_all, take-append-le, drop-append-le}
 use Rattle.gr_logic.specs.Literals.{Literal}
 use Rattle.gr_check.specs.Runs.{lits_of, clauses_of, RunsWithin}
-use Rattle.gr_check.specs.declared.pool.Run.{Run}
+use Rattle.gr_check.specs.Entries.{Updated}
+use Rattle.gr_check.specs.declared.runs.Run.{Run}
 
 -- the scan for an id answers with its run's literals
 find-map : (lits : List Literal) (runs : List (ℕ × Run)) (q : ℕ)
@@ -60,11 +61,6 @@ pub lits_of-found : (lits c : List Literal) (found : Option Run)
     → option_map (lits_of (lits ++ c)) found ≡ option_map (lits_of lits) found
 lits_of-found lits c None within = refl
 lits_of-found lits c (Some run) within = ap Some (lits_of-append lits c run (within run refl))
-
--- the look-up after an entry was put in or taken out
-abbrev pub Updated : List (ℕ × Run) → List (ℕ × Run) → ℕ → Option Run → Type 0
-Updated old new id run =
-    (q : ℕ) → lookup (nat_eq q) new ≡ cond (nat_eq id q) run (lookup (nat_eq q) old)
 
 -- the order's test for equal numbers
 tied : (id q : ℕ) → nat_eq id q ≡ eq_by_cmp nat_cmp q id

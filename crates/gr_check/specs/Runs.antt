@@ -1,10 +1,10 @@
 -- clauses as runs of one list of literals
-use Rattle.std.specs.Prelude.{ℕ, ◌+◌, ◌<◌, ◌≤◌, ◌≡◌, List, map, length, take, drop, Option, Some, None, nat_eq, option_map, slice_index_or}
+use Rattle.std.specs.Prelude.{ℕ, ◌+◌, ◌<◌, ◌≤◌, ◌≡◌, List, [], map, length, take, drop, Option, Some, None, nat_eq, option_map, slice_index_or, All}
 use Rattle.std.specs.Map.{lookup}
 use Rattle.std.specs.FinMap as finite
 use Rattle.gr_logic.specs.Literals.{Literal}
 use Rattle.gr_logic.specs.Log.{Clauses}
-use Rattle.gr_check.specs.declared.pool.Run.{Run}
+use Rattle.gr_check.specs.declared.runs.Run.{Run}
 
 -- the literals of a run
 abbrev pub lits_of : List Literal → Run → List Literal
@@ -18,6 +18,27 @@ clauses_of lits runs = finite.from_entries (map (λ e. (e.0, lits_of lits e.1)) 
 abbrev pub RunsWithin : ℕ → List (ℕ × Run) → Type 0
 RunsWithin count runs =
     (id : ℕ) (run : Run) → lookup (nat_eq id) runs ≡ Some run → run.from + run.len ≤ count
+
+-- the literals of a run, if there is one
+abbrev pub lits_in : List Literal → Option Run → List Literal
+lits_in lits None = []
+lits_in lits (Some run) = lits_of lits run
+
+-- a run, if there is one, ends within so many literals
+abbrev pub IsRunWithin : ℕ → Option Run → Type 0
+IsRunWithin count None = Unit {0}
+IsRunWithin count (Some run) = run.from + run.len ≤ count
+
+-- the clauses whose runs these are, place by place
+abbrev pub clauses_in : List Literal → List (Option Run) → List (Option (List Literal))
+clauses_in lits slots = map (option_map (lits_of lits)) slots
+
+-- runs that were moved have the clauses that the old ones had among the old literals
+pub record AreMoved (old_lits : List Literal) (old : List (Option Run)) (lits : List Literal)
+    (new : List (Option Run))
+    : Type 0 where
+  pub within : All (IsRunWithin (length lits)) new
+  pub same : clauses_in lits new ≡ clauses_in old_lits old
 
 -- each place has the run of its id's clause, or nothing where no clause has the id
 pub record AreLocated (clauses : Clauses) (lits : List Literal) (ids : List ℕ)

@@ -7,8 +7,9 @@ ghost use Rattle.gr_check.specs.Refusals.{IsCauseOf};
 
 use crate::deletions::{find_missing, release, remove_all};
 use crate::marks::Marks;
-use crate::pool::{Pool, Run};
+use crate::pool::Pool;
 use crate::refusals::{Finish, Refused};
+use crate::runs::Run;
 use crate::unit_steps::unit_steps;
 use gr_logic::{Clause, Formula, Line, Lit, OutOfMemory};
 use std::alloc::Global;
@@ -142,7 +143,7 @@ fn numbered(alloc: Global, clauses: &[Clause]) -> Result<Pool, OutOfMemory>
     requires { length clauses.now ≤ 5_000_000 }
     ensures { IfOk result (λ pool. pool ≡ with_clauses map.empty 1 clauses.now) }
 {
-    let mut pool = Pool::new(alloc);
+    let mut pool = Pool::with_room(alloc, clauses.len())?;
     for (i, clause) in clauses.iter().enumerate() {
         pool.insert(i as u64 + 1, clause.lits())?;
     }

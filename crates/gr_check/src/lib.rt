@@ -6,6 +6,7 @@ mod deletions;
 mod marks;
 mod pool;
 mod refusals;
+mod runs;
 mod unit_steps;
 mod whole_logs;
 

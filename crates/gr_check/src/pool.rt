@@ -1,26 +1,20 @@
 // The clauses that may be cited, their literals in one vector.
-ghost use Rattle.std.specs.Prelude.{◌≡◌, ◌≤◌, ◌+◌, length, None, Some, IfOk, OnOk, OnErr, MatchOption};
+ghost use Rattle.std.specs.Prelude.{◌≡◌, All, ◌≤◌, ◌+◌, ◌++◌, [], length, None, Some, IfOk, OnOk, OnErr, MatchOption, option_map};
 ghost use Rattle.std.specs.FinMap as map;
-ghost use Rattle.gr_check.specs.Runs.{lits_of, AreLocated};
+ghost use Rattle.gr_check.specs.Runs.{lits_of, AreLocated, AreMoved, IsRunWithin, lits_in};
 
+use crate::runs::{Run, RunMap};
 use gr_logic::{Lit, OutOfMemory};
 use std::alloc::Global;
 use std::collections::HashMap;
 use std::marker::Model;
-
-/// Where a clause's literals are.
-#[derive(Clone, Copy)]
-pub(crate) struct Run {
-    pub(crate) from: usize,
-    pub(crate) len: usize,
-}
 
 /// Clauses by their ids: a contract sees the finite map.
 #[derive(Drop)]
 pub(crate) struct Pool {
     /// The literals of every clause, and between them those of clauses that were removed.
     lits: Vec<Lit>,
-    runs: HashMap<u64, Run>,
+    runs: RunMap,
     /// How many of `lits` belong to no clause any more: what compacting gives back.
     dead: usize,
 }
@@ -35,22 +29,24 @@ impl Model for Pool {
     ghost coded = { clauses_code };
 
     ghost use Rattle.gr_check.specs.Runs.{clauses_of, RunsWithin};
+    ghost use Rattle.gr_check.specs.Entries.{entries_of};
 
-    ghost view = { λ pool. clauses_of pool.lits.items pool.runs.entries };
+    ghost view = { λ pool. clauses_of pool.lits.items (entries_of pool.runs) };
 
-    ghost invariant = { λ pool. RunsWithin (length pool.lits.items) pool.runs.entries };
+    ghost invariant = { λ pool. RunsWithin (length pool.lits.items) (entries_of pool.runs) };
 }
 
 impl Pool {
-    /// No clauses. Takes no memory.
-    pub(crate) fn new(alloc: Global) -> Pool
-        ensures { result ≡ map.empty }
+    /// No clauses, with room for so many ids from 1 on.
+    pub(crate) fn with_room(alloc: Global, ids: usize) -> Result<Pool, OutOfMemory>
+        ensures { IfOk result (λ pool. pool ≡ map.empty) }
     {
-        Pool {
+        let runs = RunMap::with_room(alloc, ids)?;
+        Ok(Pool {
             lits: Vec::new(alloc),
-            runs: HashMap::new(alloc),
+            runs,
             dead: 0,
-        }
+        })
     }
 
     /// Where the clauses of these ids are among the literals, which are lent. No look-up waits for
@@ -64,7 +60,7 @@ impl Pool {
     {
         places.clear();
         for id in ids {
-            places.push(self.runs.get(id).copied())?;
+            places.push(self.runs.get(*id))?;
         }
         Ok(self.lits.as_slice())
     }
@@ -73,7 +69,7 @@ impl Pool {
     pub(crate) fn contains(&self, id: u64) -> bool
         ensures { result ≡ map.contains_key self.now id }
     {
-        self.runs.contains_key(&id)
+        self.runs.get(id).is_some()
     }
 
     /// Puts a clause under the id.
@@ -82,16 +78,12 @@ impl Pool {
         ensures err { OnErr result (self.new ≡ self.old) }
     {
         self.make_room(lits.len());
-        let from = self.lits.len();
-        self.lits.extend_from_slice(lits)?;
-        let run = Run {
-            from,
-            len: lits.len(),
-        };
+        let end = self.lits.len();
+        let run = append(&mut self.lits, lits)?;
         match self.runs.insert(id, run) {
-            Ok(_) => Ok(()),
+            Ok(()) => Ok(()),
             Err(_) => {
-                self.lits.truncate(from);
+                self.lits.truncate(end);
                 Err(OutOfMemory)
             }
         }
@@ -101,8 +93,8 @@ impl Pool {
     pub(crate) fn remove(&mut self, id: u64)
         ensures { self.new ≡ map.remove self.old id }
     {
-        if let Some(run) = self.runs.remove(&id) {
-            self.dead = self.dead.saturating_add(run.len);
+        if let Some(run) = self.runs.remove(id) {
+            self.dead = self.dead.saturating_add(run.len as usize);
         }
     }
 
@@ -131,14 +123,17 @@ impl Pool {
     {
         let alloc = *self.lits.allocator();
         let mut lits = Vec::with_capacity(alloc, room)?;
-        let mut runs = HashMap::with_capacity(alloc, self.runs.len())?;
-        for (id, run) in self.runs.iter() {
-            let from = lits.len();
-            let clause = lits_at(&self.lits, *run);
-            lits.extend_from_slice(clause)?;
-            let len = clause.len();
-            runs.insert(*id, Run { from, len })?;
+        let near = copy_near(alloc, &self.runs.near, &self.lits, &mut lits)?;
+        let mut far = HashMap::new(alloc);
+        for (id, run) in self.runs.far.iter() {
+            if self.runs.near_run(*id).is_some() {
+                continue;
+            }
+            let moved = append(&mut lits, lits_at(&self.lits, *run))?;
+            far.insert(*id, moved)?;
         }
+        let added = self.runs.added;
+        let runs = RunMap { near, far, added };
         Ok(Pool {
             lits,
             runs,
@@ -147,10 +142,64 @@ impl Pool {
     }
 }
 
+/// Appends the literals of these runs, in order, and says where they are then.
+fn copy_near(
+    alloc: Global,
+    near: &[Option<Run>],
+    old_lits: &[Lit],
+    lits: &mut Vec<Lit>,
+) -> Result<Vec<Option<Run>>, OutOfMemory>
+    requires none { lits.old.items ≡ [] }
+    requires within { All (IsRunWithin (length old_lits.now)) near.now }
+    ensures { IfOk result (λ moved. AreMoved old_lits.now near.now lits.new.items moved.items) }
+{
+    let mut moved = Vec::with_capacity(alloc, near.len())?;
+    for slot in near {
+        let place = copy_slot(*slot, old_lits, lits)?;
+        moved.push(place)?;
+    }
+    Ok(moved)
+}
+
+/// Appends the literals of a run, if there is one, and says where they are then.
+fn copy_slot(
+    slot: Option<Run>,
+    old_lits: &[Lit],
+    lits: &mut Vec<Lit>,
+) -> Result<Option<Run>, OutOfMemory>
+    requires { IsRunWithin (length old_lits.now) slot }
+    ensures lits { OnOk result (lits.new.items ≡ lits.old.items ++ lits_in old_lits.now slot) }
+    ensures within { IfOk result (λ moved. IsRunWithin (length lits.new.items) moved) }
+    ensures same { IfOk result (λ moved. option_map (lits_of lits.new.items) moved ≡ option_map (lits_of old_lits.now) slot) }
+{
+    let Some(run) = slot else {
+        return Ok(None);
+    };
+    let moved = append(lits, lits_at(old_lits, run))?;
+    Ok(Some(moved))
+}
+
+/// Appends a clause, and says where it is. Where it is has 32 bits, so memory ends at 2^32 literals.
+fn append(lits: &mut Vec<Lit>, clause: &[Lit]) -> Result<Run, OutOfMemory>
+    ensures lits { OnOk result (lits.new.items ≡ lits.old.items ++ clause.now) }
+    ensures run { IfOk result (λ run. (run.from ≡ length lits.old.items) × (run.len ≡ length clause.now)) }
+    ensures err { OnErr result (lits.new.items ≡ lits.old.items) }
+{
+    let Ok(from) = u32::try_from(lits.len()) else {
+        return Err(OutOfMemory);
+    };
+    let Ok(len) = u32::try_from(clause.len()) else {
+        return Err(OutOfMemory);
+    };
+    lits.extend_from_slice(clause)?;
+    Ok(Run { from, len })
+}
+
 /// The literals of a run.
 pub(crate) fn lits_at(lits: &[Lit], run: Run) -> &[Lit]
     requires { run.from + run.len ≤ length lits.now }
     ensures { result.now ≡ lits_of lits.now run }
 {
-    &lits[run.from..run.from + run.len]
+    let from = run.from as usize;
+    &lits[from..from + run.len as usize]
 }

@@ -9,8 +9,9 @@ ghost use Rattle.gr_check.specs.Refusals.{IsCauseOf};
 ghost use Rattle.gr_check.specs.Readings.{reading_of, IsWithin};
 
 use crate::marks::Marks;
-use crate::pool::{Pool, Run, lits_at};
+use crate::pool::{Pool, lits_at};
 use crate::refusals::Refused;
+use crate::runs::Run;
 use gr_logic::Lit;
 
 /// How a clause stands: all its literals are false, or just one (as a set) is not, or more are not.

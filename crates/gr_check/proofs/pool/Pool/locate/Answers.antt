@@ -3,6 +3,7 @@ use Rattle.std.proofs.Common.{◌≡◌, ℕ, ◌<◌, sym, ap, ◌∙◌, get_o
 use Rattle.std.specs.Prelude.{option_map}
 use Rattle.std.specs.Map.{lookup}
 use Rattle.gr_check.specs.Runs.{lits_of}
+use Rattle.gr_check.specs.Entries.{entries_of}
 use Rattle.gr_check.proofs.RunMaps.{get-clauses_of}
 use Rattle.gr_check.proofs.pool.Pool.locate.Goals as goal
 
@@ -15,9 +16,9 @@ loop-id-preserved c =
     → get_or c.push.new.self.items k None ≡ get_or c.loop-id.places.items k None =
     λ k lt. by_index.0 k None (omega arith) in
     let here : get_or c.push.new.self.items c.loop-id.id-index None
-    ≡ lookup (nat_eq id) c.self.inside.runs.entries =
+    ≡ lookup (nat_eq id) (entries_of c.self.inside.runs) =
     ap (λ n. get_or c.push.new.self.items n None) (sym long) ∙ by_index.1 None refl
-    ∙ c.copied.ensures ∙ c.get.ensures.value in
+    ∙ c.get.ensures in
     record {
       count = omega (arith, c.in_ok-push.ensures.len);
       within = below_more _ _ (λ k lt run is. c.loop-id.invariant.within k lt run
@@ -25,6 +26,6 @@ loop-id-preserved c =
           (λ run is. c.self.invariant id run (sym here ∙ is));
       found = below_more _ _ (λ k lt. c.loop-id.invariant.found k lt
           ∙ ap (option_map (lits_of c.self.inside.lits.items)) (sym (same k lt)))
-          (rw (← c.self.view_is) (get-clauses_of c.self.inside.lits.items c.self.inside.runs.entries
+          (rw (← c.self.view_is) (get-clauses_of c.self.inside.lits.items (entries_of c.self.inside.runs)
           id ∙ ap (option_map (lits_of c.self.inside.lits.items)) (sym here)));
     }

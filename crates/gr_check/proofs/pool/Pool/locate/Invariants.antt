@@ -3,7 +3,7 @@ use Rattle.std.proofs.Common.{◌≡◌, ℕ, ◌+◌, ◌<◌, ◌≤◌, lengt
 use Rattle.std.specs.Prelude.{option_map}
 use Rattle.std.specs.FinMap as finite
 use Rattle.gr_check.specs.Runs.{lits_of}
-use Rattle.gr_check.specs.declared.pool.Run.{Run}
+use Rattle.gr_check.specs.declared.runs.Run.{Run}
 use Rattle.gr_check.proofs.pool.Pool.locate.Given as goal
 
 abbrev pub invariant-loop-id : goal.invariant-loop-id
