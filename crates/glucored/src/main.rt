@@ -1,9 +1,15 @@
 //! The program glucored: the words and the files of the process, handed to the one call that is proved.
 #![tactic(auto)]
 
-use gr_io::{FileSink, FileSource, Open, OutSink};
+ghost use Rattle.std.specs.Prelude.{◌≡◌, map, string_bytes, IfOk};
+ghost use Rattle.gr_top.specs.Checking.{output, sources};
+ghost use Rattle.gr_top.specs.Solving.{streams};
+ghost use Rattle.glucored.specs.Runs.{Ends};
+
+use gr_io::{FileSink, FileSource, Open, OutSink, Sink, Source};
 use gr_logic::OutOfMemory;
 use gr_top::{Status, Words, code, files, run};
+use std::alloc::Global;
 use std::env;
 use std::io::ErrorKind;
 use std::process::ExitCode;
@@ -22,33 +28,56 @@ fn call(rt: HostRuntime) -> Result<u8, OutOfMemory> {
     let mut log = FileSource::new(rt, log_name);
     let mut out = OutSink::new(rt);
     let mut proof = FileSink::new(rt, names.log);
-    let report = run(
-        rt.alloc(),
-        &words,
-        &mut cnf,
-        &mut log,
-        &mut out,
-        &mut proof,
-        &Open,
-    );
-    Ok(code(&report.status))
+    let status = exit_status(rt.alloc(), &words, &mut cnf, &mut log, &mut out, &mut proof);
+    Ok(status)
+}
+
+/// Runs the program over its words and its streams, and answers the exit status.
+fn exit_status<A: Source, B: Source, C: Sink, D: Sink>(
+    alloc: Global,
+    words: &Words,
+    cnf: &mut A,
+    log: &mut B,
+    out: &mut C,
+    proof: &mut D,
+) -> u8
+    ensures { Ends words.now
+        (streams (A.left cnf.old) (A.faults cnf.old)
+        (C.written out.old) (C.faults out.old) (D.written proof.old) (D.faults proof.old))
+        (streams (A.left cnf.new) (A.faults cnf.new)
+        (C.written out.new) (C.faults out.new) (D.written proof.new) (D.faults proof.new))
+        (sources (A.left cnf.old) (A.faults cnf.old) (B.left log.old) (B.faults log.old))
+        (sources (A.left cnf.new) (A.faults cnf.new) (B.left log.new) (B.faults log.new))
+        (output (C.written out.old) (C.faults out.old)) (output (C.written out.new) (C.faults out.new))
+        result }
+{
+    let report = run(alloc, words, cnf, log, out, proof, &Open);
+    code(&report.status)
 }
 
 /// The words after the program's name. Where one of them is not text, there are none.
 fn read_words(rt: HostRuntime) -> Result<Words, OutOfMemory> {
-    let mut words = Words::new(rt.alloc());
-    let mut args = match env::args(&rt) {
-        Ok(args) => args,
+    match env::args(&rt) {
+        Ok(args) => {
+            let args = args.collect::<Vec<String>>(rt.alloc())?;
+            words_of(rt.alloc(), args.get(1..).unwrap_or_default())
+        }
         Err(failed) => {
             if failed.kind() == ErrorKind::OutOfMemory {
                 return Err(OutOfMemory);
             }
-            return Ok(words);
+            Ok(Words::new(rt.alloc()))
         }
-    };
-    let _name = args.next();
-    for word in args {
-        words.push(word.as_str())?;
+    }
+}
+
+/// These words in their order.
+fn words_of(alloc: Global, texts: &[String]) -> Result<Words, OutOfMemory>
+    ensures { IfOk result (λ words. words ≡ map string_bytes texts.now) }
+{
+    let mut words = Words::new(alloc);
+    for text in texts {
+        words.push(text.as_str())?;
     }
     Ok(words)
 }

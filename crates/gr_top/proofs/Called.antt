@@ -5,12 +5,13 @@ use Rattle.gr_io.specs.Pieces.{Gains, GainsPart, Rose}
 use Rattle.gr_io.specs.declared.sinks.SinkError.{SinkError}
 use Rattle.gr_io.specs.declared.sinks.SinkError.TheVariants as sink_errors
 use Rattle.gr_logic.specs.Formulas.{Cnf}
-use Rattle.gr_dimacs.specs.Reads.{Reads}
+use Rattle.gr_dimacs.specs.Reads.{program_limits, Reads}
 use Rattle.gr_dimacs.specs.declared.faults.GrammarFault.{GrammarFault}
 use Rattle.gr_dimacs.specs.declared.faults.ReadError.TheVariants as read_errors
 use Rattle.gr_top.specs.Sinks.{Sinks, OutRose, IsUntouched}
 use Rattle.gr_top.specs.Texts.{fault_text, usage_text}
-use Rattle.gr_top.specs.Solving.{Streams, program_limits, taking, ReadRose, IsReadFrom, IsFaultIn, AnswersBy, Answers, SolvesBy, Solves, IsBare, RefusesBy, Refuses}
+use Rattle.gr_top.specs.Solving.{Streams, taking, ReadRose, IsReadFrom, IsFaultIn, AnswersBy, Answers, SolvesBy, Solves, IsBare}
+use Rattle.gr_top.specs.Refusing.{RefusesBy, Refuses}
 use Rattle.gr_top.specs.Statuses.{end_status}
 use Rattle.gr_top.specs.declared.statuses.Status.{Status}
 use Rattle.gr_top.specs.declared.statuses.Status.TheVariants.{Satisfiable, Unsatisfiable, Verified, NotVerified, Usage, Grammar, LogGrammar, ReadFault, SinkFault, OutOfMemory}

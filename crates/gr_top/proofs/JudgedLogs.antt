@@ -1,17 +1,18 @@
 -- what is found of a log as its lines come
-use Rattle.std.proofs.Common.{◌≡◌, ◌∙◌, sym, ap, subst, refl, ℕ, ◌+◌, ◌^◌, ◌≤◌, ◌↔◌, Bool, true, false, List, [], ◌∷◌, cond, inl, inr, arith}
+use Rattle.std.proofs.Common.{◌≡◌, ◌∙◌, sym, ap, subst, refl, ℕ, ◌+◌, ◌-◌, ◌^◌, ◌≤◌, ◌↔◌, Bool, true, false, List, [], ◌∷◌, cond, inl, inr, arith}
 use Rattle.std.specs.Prelude.{Option, Some, None, Result, Ok, Err, map}
 use Rattle.std.specs.Option.{option_map}
 use Rattle.gr_io.specs.Pieces.{Rose}
-use Rattle.gr_text.specs.Places.{Place, at_start, known, taken, limit_of}
+use Rattle.gr_text.specs.Places.{Place, Takes, at_start, known, taken, limit_of}
+use Rattle.gr_text.proofs.Taken.{takes-nothing, takes-then}
 use Rattle.gr_logic.specs.Formulas.{Cnf}
 use Rattle.gr_logic.specs.Log.{LogState, Cause, opening, line_cause, after_line, first_cause, refusal_from, state_after, Accepts}
 use Rattle.gr_logic.specs.declared.lines.Line.{Line}
 use Rattle.gr_logic.proofs.LogSound.{accepts-sound}
 use Rattle.gr_lrat.specs.Lines.{Spelled}
-use Rattle.gr_lrat.specs.Logs.{LogEnd, AtEnd, AtBadLine, AtRatHint, AtLimit, LogRead, NumberedLine, with_line, ends, log_read, LogOutcome, Verified, NoEmptyClause, Refused, outcome_at, refused_or, outcome_from}
+use Rattle.gr_lrat.specs.Logs.{LogEnd, AtEnd, AtBadLine, AtRatHint, AtLimit, LogRead, NumberedLine, with_line, ends, log_read, log_outcome, LogOutcome, Verified, NoEmptyClause, Refused, TooLong, outcome_at, refused_or, outcome_from}
 use Rattle.gr_lrat.specs.Stages.{log_to_come}
-use Rattle.gr_lrat.specs.Answers.{Answers}
+use Rattle.gr_lrat.specs.Answers.{Answers, KeepsLimit}
 use Rattle.gr_lrat.specs.declared.readers.Numbered.{Numbered}
 use Rattle.gr_lrat.specs.declared.readers.LineError.{LineError}
 use Rattle.gr_lrat.specs.declared.readers.LineError.TheVariants as errors
@@ -22,8 +23,9 @@ use Rattle.gr_check.specs.declared.refusals.Refused.{Refused as Refusal}
 use Rattle.gr_check.specs.declared.refusals.Refused.TheVariants as refusals
 use Rattle.gr_check.specs.declared.refusals.Finish.{Finish}
 use Rattle.gr_check.specs.declared.refusals.Finish.TheVariants as finishes
-use Rattle.gr_top.specs.CheckedLogs.{outcome_of, lines_of, IsOutcome, AreLinesOf, IsProof, LogGives}
+use Rattle.gr_top.specs.CheckedLogs.{Shown, shown, lines_of, Finds, IsAllRead, IsProof, LogGives}
 use Rattle.gr_top.specs.Statuses.{finish_status, unread_status, refused_status}
+use Rattle.gr_top.proofs.FoundLogs.{IsOutcome, IsWhole, told-outcome, finds, finds-nothing, all-read}
 
 -- what comes of the lines to come, from a state on
 abbrev pub outcome_read : LogState → LogRead → LogOutcome
@@ -34,16 +36,21 @@ abbrev pub Extends : Cnf → LogState → Type 0
 Extends f s = (later : List Line) → ((n : ℕ) → refusal_from n s later ≡ None)
     → (state_after s later).refuted ≡ true → (lines : List Line) × Accepts f lines
 
--- the lines so far were accepted and led to this state, and those to come decide the log
+-- the lines so far were accepted and led to this state, and those to come decide the log, for every limit that
+-- has room for what is known
 pub record Follows (f : Cnf) (told : Option (List ℕ)) (s : LogState) (last : Bool) (p : Place) (l : Option (List ℕ)) : Type 0 where
   pub extends : Extends f s
-  pub outcome : option_map (outcome_of f) told ≡ option_map (outcome_read s) (log_to_come (2 ^ 40) last p l)
+  pub outcome : (limit : ℕ) → known p ≤ limit → option_map (λ text. log_outcome f text limit) told
+      ≡ option_map (outcome_read s) (log_to_come limit last p l)
+  pub takes : Takes (at_start (2 ^ 40)) told p l
 
 -- at the front all of the log is to come
-front-reads : (told : Option (List ℕ))
-    → option_map (log_read (2 ^ 40)) told ≡ log_to_come (2 ^ 40) false (at_start (2 ^ 40)) told
-front-reads None = refl
-front-reads (Some text) = refl
+front-reads : (limit : ℕ) (told : Option (List ℕ))
+    → option_map (log_read limit) told ≡ log_to_come limit false (at_start (2 ^ 40)) told
+front-reads limit None = refl
+front-reads limit (Some text) =
+    let all : limit - 0 ≡ limit = omega arith in
+    ap (λ most. Some (log_read most text)) (sym all)
 
 pub begins : (f : Cnf) (told : Option (List ℕ)) (p : Place) (s : LogState) → p ≡ at_start (2 ^ 40) → s ≡ opening f
     → Follows f told s false p told
@@ -53,11 +60,12 @@ begins f told p s front start = record {
       let found : (state_after (opening f) later).refuted ≡ true =
       subst (λ v. (state_after v later).refuted ≡ true) start refuted in
       (later, (same, found));
-  outcome =
-      sym (map_twice (outcome_read (opening f)) (log_read (2 ^ 40)) told)
-      ∙ ap (option_map (outcome_read (opening f))) (front-reads told)
-      ∙ ap (λ v. option_map (outcome_read v) (log_to_come (2 ^ 40) false (at_start (2 ^ 40)) told)) (sym start)
-      ∙ ap (λ q. option_map (outcome_read s) (log_to_come (2 ^ 40) false q told)) (sym front);
+  outcome = λ limit room.
+      sym (map_twice (outcome_read (opening f)) (log_read limit) told)
+      ∙ ap (option_map (outcome_read (opening f))) (front-reads limit told)
+      ∙ ap (λ v. option_map (outcome_read v) (log_to_come limit false (at_start (2 ^ 40)) told)) (sym start)
+      ∙ ap (λ q. option_map (outcome_read s) (log_to_come limit false q told)) (sym front);
+  takes = takes-nothing (at_start (2 ^ 40)) p told (ap taken front);
 }
 
 -- an accepted line begins what is to come
@@ -68,75 +76,91 @@ extends-by f s x none extends =
     (λ n. ap (λ cause. first_cause n cause (refusal_from (n + 1) (after_line s x) later)) none ∙ accepted (n + 1))
     refuted
 
+-- what a step of the reader says: its answer, what is known then, and what it took
+pub record ReadsOn (answer : Result (Option Numbered) LineError) (last : Bool) (p : Place) (l : Option (List ℕ))
+    (last' : Bool) (q : Place) (r : Option (List ℕ)) : Type 0 where
+  pub answers : Answers answer last p l last' q r
+  pub grows : known p ≤ known q
+  pub within : known q ≤ 2 ^ 40
+  pub takes : Takes p l q r
+
+-- no more is known than may be looked at
+pub still-within : (p q : Place) → limit_of p ≡ 2 ^ 40 → known p ≤ 2 ^ 40 → KeepsLimit p q → known q ≤ 2 ^ 40
+still-within p q limit within keeps =
+    let before : known p ≤ limit_of p = omega (arith, limit, within) in
+    omega (arith, keeps.within before, keeps.limit, limit)
+
+pub reads-on : {answer : Result (Option Numbered) LineError} {last last' : Bool} {p q : Place} {l r : Option (List ℕ)}
+    → Answers answer last p l last' q r → KeepsLimit p q → limit_of p ≡ 2 ^ 40 → known p ≤ 2 ^ 40 → Takes p l q r
+    → ReadsOn answer last p l last' q r
+reads-on {p = p} {q = q} answers keeps limit within takes = record {
+  answers = answers;
+  grows = keeps.grows;
+  within = still-within p q limit within keeps;
+  takes = takes;
+}
+
 -- where a line comes next, its cause decides, or else the lines behind it
 line-decides : (f : Cnf) (told : Option (List ℕ)) (s : LogState) (last last' : Bool) (p q : Place) (l r : Option (List ℕ)) (x : Numbered)
-    (cause : Option Cause)
-    → Follows f told s last p l → Answers (Ok (Some x)) last p l last' q r → known q ≤ 2 ^ 40 → line_cause s x.line ≡ cause
-    → option_map (outcome_of f) told
-    ≡ option_map (λ later. refused_or x.number cause (outcome_read (after_line s x.line) later)) (log_to_come (2 ^ 40) last' q r)
-line-decides f told s last last' p q l r x cause follows answers within is =
-    follows.outcome
-    ∙ ap (option_map (outcome_read s)) (answers (2 ^ 40) within)
-    ∙ map_twice (outcome_read s) (with_line (Spelled x.line) x.number) (log_to_come (2 ^ 40) last' q r)
-    ∙ map_same _ (λ later. refused_or x.number cause (outcome_read (after_line s x.line) later)) (log_to_come (2 ^ 40) last' q r)
+    (cause : Option Cause) (limit : ℕ)
+    → Follows f told s last p l → ReadsOn (Ok (Some x)) last p l last' q r → known q ≤ limit → line_cause s x.line ≡ cause
+    → option_map (λ text. log_outcome f text limit) told
+    ≡ option_map (λ later. refused_or x.number cause (outcome_read (after_line s x.line) later)) (log_to_come limit last' q r)
+line-decides f told s last last' p q l r x cause limit follows reads room is =
+    let before : known p ≤ limit = omega (arith, reads.grows, room) in
+    follows.outcome limit before
+    ∙ ap (option_map (outcome_read s)) (reads.answers limit room)
+    ∙ map_twice (outcome_read s) (with_line (Spelled x.line) x.number) (log_to_come limit last' q r)
+    ∙ map_same _ (λ later. refused_or x.number cause (outcome_read (after_line s x.line) later)) (log_to_come limit last' q r)
     (λ later. ap (λ o. refused_or x.number o (outcome_read (after_line s x.line) later)) is)
 
 pub line-follows : (f : Cnf) (told : Option (List ℕ)) (s t : LogState) (last last' : Bool) (p q : Place) (l r : Option (List ℕ)) (x : Numbered)
-    → Follows f told s last p l → Answers (Ok (Some x)) last p l last' q r → known q ≤ 2 ^ 40
+    → Follows f told s last p l → ReadsOn (Ok (Some x)) last p l last' q r
     → line_cause s x.line ≡ None → t ≡ after_line s x.line → Follows f told t last' q r
-line-follows f told s t last last' p q l r x follows answers within none after = record {
+line-follows f told s t last last' p q l r x follows reads none after = record {
   extends = subst (Extends f) (sym after) (extends-by f s x.line none follows.extends);
-  outcome =
-      line-decides f told s last last' p q l r x None follows answers within none
-      ∙ ap (λ v. option_map (outcome_read v) (log_to_come (2 ^ 40) last' q r)) (sym after);
+  outcome = λ limit room.
+      line-decides f told s last last' p q l r x None limit follows reads room none
+      ∙ ap (λ v. option_map (outcome_read v) (log_to_come limit last' q r)) (sym after);
+  takes = takes-then (at_start (2 ^ 40)) p q told l r follows.takes reads.takes;
 }
-
--- where the lines to come give this outcome whatever they are, a told log has it
-told-outcome : {R : Type 0} (f : Cnf) (told : Option (List ℕ)) (g : R → LogOutcome) (r : Option R) (outcome : LogOutcome)
-    → option_map (outcome_of f) told ≡ option_map g r → ((x : R) → g x ≡ outcome) → IsOutcome told f outcome
-told-outcome f None g r outcome same is = tt
-told-outcome f (Some text) g None outcome same is = absurd (cc)
-told-outcome f (Some text) g (Some x) outcome same is = content same ∙ is x
-  where
-    inside : LogOutcome → Option LogOutcome → LogOutcome
-    inside other None = other
-    inside other (Some o) = o
-
-    content : {a b : LogOutcome} → Some a ≡ Some b → a ≡ b
-    content {a} {b} e = ap (inside a) e
 
 -- where a line is refused, the log is
 refused-outcome : (f : Cnf) (told : Option (List ℕ)) (s : LogState) (last last' : Bool) (p q : Place) (l r : Option (List ℕ)) (x : Numbered)
     (why : Cause)
-    → Follows f told s last p l → Answers (Ok (Some x)) last p l last' q r → known q ≤ 2 ^ 40
-    → line_cause s x.line ≡ Some why → IsOutcome told f (Refused x.number why)
-refused-outcome f told s last last' p q l r x why follows answers within is =
-    told-outcome f told _ (log_to_come (2 ^ 40) last' q r) (Refused x.number why)
-    (line-decides f told s last last' p q l r x (Some why) follows answers within is) (λ later. refl)
+    → Follows f told s last p l → ReadsOn (Ok (Some x)) last p l last' q r
+    → line_cause s x.line ≡ Some why → Finds f (Refused x.number why) told r
+refused-outcome f told s last last' p q l r x why follows reads is =
+    let outcome = told-outcome (2 ^ 40) f told _ (log_to_come (2 ^ 40) last' q r) (Refused x.number why)
+    (line-decides f told s last last' p q l r x (Some why) (2 ^ 40) follows reads reads.within is) (λ later. refl) in
+    finds f (Refused x.number why) told q r
+    (takes-then (at_start (2 ^ 40)) p q told l r follows.takes reads.takes) reads.within outcome
+    (λ text rest given left. tt)
 
-pub refused-gives : (why : Refusal) (f : Cnf) (told : Option (List ℕ)) (s : LogState) (last last' : Bool) (p q : Place) (l r : Option (List ℕ))
-    (x : Numbered) (old new : ℕ)
-    → Follows f told s last p l → Answers (Ok (Some x)) last p l last' q r → known q ≤ 2 ^ 40
-    → IsCauseOf why (line_cause s x.line) → LogGives (refused_status x.number why) f told old new
-refused-gives (refusals.IdNotGreater id) f told s last last' p q l r x old new follows answers within is =
-    refused-outcome f told s last last' p q l r x _ follows answers within is
-refused-gives (refusals.VarAbove id) f told s last last' p q l r x old new follows answers within is =
-    refused-outcome f told s last last' p q l r x _ follows answers within is
-refused-gives (refusals.NotLive id) f told s last last' p q l r x old new follows answers within is =
-    refused-outcome f told s last last' p q l r x _ follows answers within is
-refused-gives (refusals.HintNotUnit id) f told s last last' p q l r x old new follows answers within is =
-    refused-outcome f told s last last' p q l r x _ follows answers within is
-refused-gives (refusals.NoConflict id) f told s last last' p q l r x old new follows answers within is =
-    refused-outcome f told s last last' p q l r x _ follows answers within is
-refused-gives refusals.OutOfMemory f told s last last' p q l r x old new follows answers within is = tt
+pub refused-gives : (why : Refusal) (f : Cnf) (s : LogState) (last last' : Bool) (p q : Place) (l r : Option (List ℕ))
+    (x : Numbered) (old : Shown) (faults : ℕ)
+    → Follows f old.text s last p l → ReadsOn (Ok (Some x)) last p l last' q r
+    → IsCauseOf why (line_cause s x.line) → LogGives (refused_status x.number why) f old (shown r faults)
+refused-gives (refusals.IdNotGreater id) f s last last' p q l r x old faults follows reads is =
+    refused-outcome f old.text s last last' p q l r x _ follows reads is
+refused-gives (refusals.VarAbove id) f s last last' p q l r x old faults follows reads is =
+    refused-outcome f old.text s last last' p q l r x _ follows reads is
+refused-gives (refusals.NotLive id) f s last last' p q l r x old faults follows reads is =
+    refused-outcome f old.text s last last' p q l r x _ follows reads is
+refused-gives (refusals.HintNotUnit id) f s last last' p q l r x old faults follows reads is =
+    refused-outcome f old.text s last last' p q l r x _ follows reads is
+refused-gives (refusals.NoConflict id) f s last last' p q l r x old faults follows reads is =
+    refused-outcome f old.text s last last' p q l r x _ follows reads is
+refused-gives refusals.OutOfMemory f s last last' p q l r x old faults follows reads is = tt
 
 -- where no line comes next, the log ends so
-end-decides : (f : Cnf) (told : Option (List ℕ)) (s : LogState) (last : Bool) (p : Place) (l r : Option (List ℕ)) (end : LogEnd) (outcome : LogOutcome)
-    → Follows f told s last p l → log_to_come (2 ^ 40) last p l ≡ option_map (λ _. ends end) r
-    → outcome_at s end ≡ outcome → IsOutcome told f outcome
-end-decides f told s last p l r end outcome follows ended is =
-    told-outcome f told _ r outcome
-    (follows.outcome ∙ ap (option_map (outcome_read s)) ended ∙ map_twice (outcome_read s) (λ _. ends end) r)
+end-decides : (limit : ℕ) (f : Cnf) (told : Option (List ℕ)) (s : LogState) (last : Bool) (p : Place) (l r : Option (List ℕ))
+    (end : LogEnd) (outcome : LogOutcome)
+    → Follows f told s last p l → known p ≤ limit → log_to_come limit last p l ≡ option_map (λ _. ends end) r
+    → outcome_at s end ≡ outcome → IsOutcome limit told f outcome
+end-decides limit f told s last p l r end outcome follows room ended is =
+    told-outcome limit f told _ r outcome
+    (follows.outcome limit room ∙ ap (option_map (outcome_read s)) ended ∙ map_twice (outcome_read s) (λ _. ends end) r)
     (λ _. is)
 
 -- lines that make a proof are accepted, and add the empty clause
@@ -164,17 +188,19 @@ proof-lines (x ∷ xs) end n s e =
     )
 
 -- a log that has this outcome is a proof
-is-proof : (told : Option (List ℕ)) (f : Cnf) → IsOutcome told f Verified → ((lines : List Line) × Accepts f lines) → IsProof told f
-is-proof None f outcome found = record {
+is-proof : (old new : Option (List ℕ)) (f : Cnf) → Finds f Verified old new → ((lines : List Line) × Accepts f lines) → IsProof f old new
+is-proof None None f outcome found = record {
   outcome = tt;
   lines = found.0;
   spelled = tt;
   accepted = found.1;
   refutes = accepts-sound f found.0 found.1;
 }
-is-proof (Some text) f outcome found =
+is-proof None (Some rest) f outcome found = absurd outcome
+is-proof (Some text) None f outcome found = absurd outcome
+is-proof (Some text) (Some rest) f outcome found =
     let read = log_read (2 ^ 40) text in
-    let accepted : Accepts f (lines_of text) = proof-lines read.lines read.end 1 (opening f) outcome in
+    let accepted : Accepts f (lines_of text) = proof-lines read.lines read.end 1 (opening f) outcome.outcome in
     record {
       outcome = outcome;
       lines = lines_of text;
@@ -183,39 +209,71 @@ is-proof (Some text) f outcome found =
       refutes = accepts-sound f (lines_of text) accepted;
     }
 
+-- a log whose end was met was read to its end
+end-found : (f : Cnf) (told : Option (List ℕ)) (s : LogState) (last last' : Bool) (p q : Place) (l r : Option (List ℕ))
+    (outcome : LogOutcome)
+    → Follows f told s last p l → ReadsOn (Ok None) last p l last' q r → outcome_at s AtEnd ≡ outcome → IsWhole outcome
+    → Finds f outcome told r
+end-found f told s last last' p q l r outcome follows reads is whole =
+    let takes = takes-then (at_start (2 ^ 40)) p q told l r follows.takes reads.takes in
+    let before : known p ≤ 2 ^ 40 = omega (arith, reads.grows, reads.within) in
+    finds f outcome told q r takes reads.within
+    (end-decides (2 ^ 40) f told s last p l r AtEnd outcome follows before (reads.answers (2 ^ 40) reads.within) is)
+    (λ text rest given left. all-read f outcome told q r takes
+    (end-decides (known q) f told s last p l r AtEnd outcome follows reads.grows (reads.answers (known q) (omega arith)) is)
+    whole text rest given left)
+
 -- the log was read to its end, and each line was accepted
-pub finish-gives : (finish : Finish) (f : Cnf) (told : Option (List ℕ)) (s : LogState) (last last' : Bool) (p q : Place) (l r : Option (List ℕ))
-    (old new : ℕ)
-    → Follows f told s last p l → Answers (Ok None) last p l last' q r → known q ≤ 2 ^ 40
-    → (finish ≡ finishes.Verified) ↔ (s.refuted ≡ true) → LogGives (Ok (finish_status finish)) f told old new
-finish-gives finishes.Verified f told s last last' p q l r old new follows answers within is =
+pub finish-gives : (finish : Finish) (f : Cnf) (s : LogState) (last last' : Bool) (p q : Place) (l r : Option (List ℕ))
+    (old : Shown) (faults : ℕ)
+    → Follows f old.text s last p l → ReadsOn (Ok None) last p l last' q r
+    → (finish ≡ finishes.Verified) ↔ (s.refuted ≡ true) → LogGives (Ok (finish_status finish)) f old (shown r faults)
+finish-gives finishes.Verified f s last last' p q l r old faults follows reads is =
     let refuted : s.refuted ≡ true = is.0 refl in
     let at_end : outcome_at s AtEnd ≡ Verified = ap (λ b. cond b Verified NoEmptyClause) refuted in
-    is-proof told f (end-decides f told s last p l r AtEnd Verified follows (answers (2 ^ 40) within) at_end)
+    is-proof old.text r f (end-found f old.text s last last' p q l r Verified follows reads at_end tt)
     (follows.extends [] (λ n. refl) refuted)
-finish-gives finishes.NoEmptyClause f told s last last' p q l r old new follows answers within is =
+finish-gives finishes.NoEmptyClause f s last last' p q l r old faults follows reads is =
     let at_end : outcome_at s AtEnd ≡ NoEmptyClause =
     elim (bool_cases s.refuted) [
       | inl h ↦ absurd (let verified = is.1 h in cc)
       | inr h ↦ ap (λ b. cond b Verified NoEmptyClause) h
     ] in
-    end-decides f told s last p l r AtEnd NoEmptyClause follows (answers (2 ^ 40) within) at_end
+    end-found f old.text s last last' p q l r NoEmptyClause follows reads at_end tt
+
+-- a misspelt line, or the limit, ends the log so
+fault-found : (f : Cnf) (told : Option (List ℕ)) (s : LogState) (last : Bool) (p q : Place) (l r : Option (List ℕ)) (end : LogEnd)
+    (outcome : LogOutcome)
+    → Follows f told s last p l → known p ≤ known q → known q ≤ 2 ^ 40 → Takes p l q r
+    → log_to_come (2 ^ 40) last p l ≡ option_map (λ _. ends end) r → outcome_at s end ≡ outcome
+    → ((rest : List ℕ) → IsAllRead outcome rest) → Finds f outcome told r
+fault-found f told s last p q l r end outcome follows grows within takes ended is all =
+    let before : known p ≤ 2 ^ 40 = omega (arith, grows, within) in
+    finds f outcome told q r (takes-then (at_start (2 ^ 40)) p q told l r follows.takes takes) within
+    (end-decides (2 ^ 40) f told s last p l r end outcome follows before ended is) (λ text rest given left. all rest)
 
 -- the next line was not read
-pub unread-gives : (failed : LineError) (f : Cnf) (told : Option (List ℕ)) (s : LogState) (last last' : Bool) (p q : Place) (l r : Option (List ℕ))
-    (old new : ℕ)
-    → Follows f told s last p l → Answers (Err failed) last p l last' q r → known q ≤ 2 ^ 40 → limit_of q ≡ 2 ^ 40
-    → (failed ≡ errors.ReadFault → Rose old new) → LogGives (unread_status failed) f told old new
-unread-gives (errors.BadLine n) f told s last last' p q l r old new follows answers within limit rose =
-    end-decides f told s last p l r (AtBadLine n) _ follows (answers (2 ^ 40) within) refl
-unread-gives (errors.RatHint n) f told s last last' p q l r old new follows answers within limit rose =
-    end-decides f told s last p l r (AtRatHint n) _ follows (answers (2 ^ 40) within) refl
-unread-gives (errors.TooLong n) f told s last last' p q l r old new follows answers within limit rose =
-    let all : taken q ≡ 2 ^ 40 = omega (arith, answers.1, limit) in
-    end-decides f told s last p l r (AtLimit n) _ follows
-    (subst (λ most. log_to_come most last p l ≡ option_map (λ _. ends (AtLimit n)) r) all answers.0) refl
-unread-gives errors.ReadFault f told s last last' p q l r old new follows answers within limit rose = rose refl
-unread-gives errors.OutOfMemory f told s last last' p q l r old new follows answers within limit rose = tt
+pub unread-gives : (failed : LineError) (f : Cnf) (s : LogState) (last last' : Bool) (p q : Place) (l r : Option (List ℕ))
+    (old : Shown) (faults : ℕ)
+    → Follows f old.text s last p l → ReadsOn (Err failed) last p l last' q r → limit_of q ≡ 2 ^ 40
+    → (failed ≡ errors.ReadFault → Rose old.faults faults) → LogGives (unread_status failed) f old (shown r faults)
+unread-gives (errors.BadLine n) f s last last' p q l r old faults follows reads limit rose =
+    fault-found f old.text s last p q l r (AtBadLine n) _ follows reads.grows reads.within reads.takes
+    (reads.answers (2 ^ 40) reads.within) refl (λ rest. tt)
+unread-gives (errors.RatHint n) f s last last' p q l r old faults follows reads limit rose =
+    fault-found f old.text s last p q l r (AtRatHint n) _ follows reads.grows reads.within reads.takes
+    (reads.answers (2 ^ 40) reads.within) refl (λ rest. tt)
+unread-gives (errors.TooLong n) f s last last' p q l r old faults follows reads limit rose =
+    let all : taken q ≡ 2 ^ 40 = omega (arith, reads.answers.1, limit) in
+    fault-found f old.text s last p q l r (AtLimit n) _ follows reads.grows reads.within reads.takes
+    (subst (λ most. log_to_come most last p l ≡ option_map (λ _. ends (AtLimit n)) r) all reads.answers.0) refl (λ rest. tt)
+unread-gives errors.ReadFault f s last last' p q l r old faults follows reads limit rose =
+    let all_known : known q ≡ taken q = rw reads.answers.1 (omega arith) in
+    let before : known p ≤ taken q = omega (arith, all_known, reads.grows) in
+    let takes = takes-then (at_start (2 ^ 40)) p q old.text l r follows.takes reads.takes in
+    let outcome = end-decides (taken q) f old.text s last p l r (AtLimit q.last) (TooLong q.last) follows before reads.answers.0 refl in
+    (rose refl, finds-nothing f old.text q r q.last takes reads.within outcome)
+unread-gives errors.OutOfMemory f s last last' p q l r old faults follows reads limit rose = tt
 
 -- what rose from a later count on rose from an earlier one
 pub rose-since : (a b c : ℕ) → a ≤ b → Rose b c → Rose a c

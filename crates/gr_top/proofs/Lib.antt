@@ -9,5 +9,6 @@ pub mod HonestRefutations
 pub mod Solved
 pub mod Answered
 pub mod Called
+pub mod FoundLogs
 pub mod JudgedLogs
 pub mod Checked

@@ -5,12 +5,12 @@ use Rattle.gr_io.specs.Pieces.{Gains, GainsPart}
 use Rattle.gr_io.proofs.Parts.{part_all}
 use Rattle.gr_logic.specs.Formulas.{Cnf}
 use Rattle.gr_dimacs.specs.Faults.{fault_of}
-use Rattle.gr_dimacs.specs.Reads.{IsFormulaOf, Reads}
+use Rattle.gr_dimacs.specs.Reads.{program_limits, IsFormulaOf, Reads}
 use Rattle.gr_dimacs.specs.declared.faults.GrammarFault.{GrammarFault}
 use Rattle.gr_dimacs.specs.declared.faults.ReadError.TheVariants as errors
 use Rattle.gr_top.specs.Sinks.{Sinks, OutRose}
 use Rattle.gr_top.specs.Texts.{satisfiable_text, fault_text, unsatisfiable_line}
-use Rattle.gr_top.specs.Solving.{Streams, program_limits, Taking, taking, IsReadFrom, IsFaultIn, AnswerFailed, AnswersText, CutFault, SolvesBy, Solves, NoFalseVerdict, NothingRose, IsDecision, IsRefusal, IsComplete}
+use Rattle.gr_top.specs.Solving.{Streams, Taking, taking, IsReadFrom, IsFaultIn, AnswerFailed, AnswersText, CutFault, SolvesBy, Solves, NoFalseVerdict, NothingRose, IsDecision, IsRefusal, IsComplete}
 use Rattle.gr_top.specs.declared.statuses.Status.{Status}
 use Rattle.gr_top.specs.declared.statuses.Status.TheVariants.{Satisfiable, Unsatisfiable, Verified, NotVerified, Usage, Grammar, LogGrammar, ReadFault, SinkFault, OutOfMemory}
 use Rattle.gr_top.specs.declared.reports.Report.{Report}
@@ -69,18 +69,24 @@ formula-of-read text (Some rest) f reads = reads.answers
 formula-of-read text None f reads = absurd reads
 
 -- a told text has its own fault
-fault-in : (told : Taking) (text : List ℕ) (g : GrammarFault)
+pub fault-in : (told : Taking) (text : List ℕ) (g : GrammarFault)
     → told.left ≡ Some text → IsFaultIn told g → fault_of program_limits text ≡ Some g
 fault-in told text g is fault =
     let P : Option (List ℕ) → Type 0 = λ o. Reads program_limits (Err (errors.Grammar g)) o told.rest in
     fault-of-read text told.rest g (subst P is fault)
 
+-- a told text that was read spells the formula
+pub formula-in : (told : Taking) (f : Cnf) (text : List ℕ)
+    → told.left ≡ Some text → IsReadFrom told f → IsFormulaOf program_limits text f
+formula-in told f text is read =
+    let P : Option (List ℕ) → Type 0 = λ o. Reads program_limits (Ok f) o told.rest in
+    formula-of-read text told.rest f (subst P is read)
+
 -- where an answer is given, the told text has no fault
-no-fault : (told : Taking) (f : Cnf) (text : List ℕ) (g : GrammarFault)
+pub no-fault : (told : Taking) (f : Cnf) (text : List ℕ) (g : GrammarFault)
     → told.left ≡ Some text → IsReadFrom told f → fault_of program_limits text ≡ Some g → ⊥
 no-fault told f text g is read fault =
-    let P : Option (List ℕ) → Type 0 = λ o. Reads program_limits (Ok f) o told.rest in
-    let formula = formula-of-read text told.rest f (subst P is read) in
+    let formula = formula-in told f text is read in
     let none = formula.faultless in cc
 
 -- a told text that spells a formula is decided, where nothing failed

@@ -3,6 +3,7 @@ pub mod Statuses
 pub mod Texts
 pub mod Sinks
 pub mod Solving
+pub mod Refusing
 pub mod CheckTexts
 pub mod CheckedLogs
 pub mod Checking

@@ -4,14 +4,13 @@ use Rattle.gr_logic.specs.Formulas.{Cnf}
 use Rattle.gr_logic.specs.declared.lines.Line.{Line}
 use Rattle.gr_io.specs.Pieces.{Gains, Rose}
 use Rattle.gr_dimacs.specs.Faults.{fault_of}
-use Rattle.gr_dimacs.specs.Reads.{IsFormulaOf, Reads}
+use Rattle.gr_dimacs.specs.Reads.{program_limits, IsFormulaOf, Reads}
 use Rattle.gr_dimacs.specs.declared.faults.GrammarFault.{GrammarFault}
 use Rattle.gr_dimacs.specs.declared.faults.ReadError.TheVariants as errors
-use Rattle.gr_dimacs.specs.declared.limits.Limits.{Limits}
 use Rattle.gr_lrat.specs.Writing.{log_text}
 use Rattle.gr_top.specs.Branching.{IsRefutation}
 use Rattle.gr_top.specs.Sinks.{Sinks, sinks, OutRose, ProofRose, IsUntouched, Tells, TellsPart, TellsRefutation, IsModel, CutOutput, CutLog, CutAnswer}
-use Rattle.gr_top.specs.Texts.{satisfiable_line, unsatisfiable_line, satisfiable_text, fault_text, usage_text}
+use Rattle.gr_top.specs.Texts.{satisfiable_line, unsatisfiable_line, satisfiable_text, fault_text}
 use Rattle.gr_top.specs.declared.statuses.Status.{Status}
 use Rattle.gr_top.specs.declared.statuses.Status.TheVariants.{Satisfiable, Unsatisfiable, Verified, NotVerified, Usage, Grammar, LogGrammar, ReadFault, SinkFault, OutOfMemory}
 use Rattle.gr_top.specs.declared.reports.Report.{Report}
@@ -34,15 +33,6 @@ streams text read_faults out out_faults proof proof_faults = record {
 -- reading failed
 abbrev pub ReadRose : Streams → Streams → Type 0
 ReadRose old new = Rose old.read_faults new.read_faults
-
--- the largest formula and the longest text that the program takes
-abbrev pub program_limits : Limits
-program_limits = record {
-  vars = 1_000_000;
-  clauses = 5_000_000;
-  literals = 20_000_000;
-  bytes = 4_294_967_296;
-}
 
 -- what a source had left to read, and what it has left now, each where it is told
 pub record Taking : Type 0 where
@@ -186,26 +176,6 @@ pub record Solves (old new : Streams) (r : Report) : Type 0 where
   pub answer : SolvesBy r.status old new r
   pub honest : NoFalseVerdict (taking old new) old.sinks new.sinks
   pub complete : IsComplete old.text old new r.status
-
--- what each status says where the words are no lawful command line
-abbrev pub RefusesBy : Status → Sinks → Sinks → Type 0
-RefusesBy Usage old new = Tells usage_text old new
-RefusesBy SinkFault old new = OutRose old new × TellsPart usage_text old new
-RefusesBy OutOfMemory old new = TellsPart usage_text old new
-RefusesBy Satisfiable old new = ⊥
-RefusesBy Unsatisfiable old new = ⊥
-RefusesBy Verified old new = ⊥
-RefusesBy (NotVerified reason) old new = ⊥
-RefusesBy (LogGrammar fault) old new = ⊥
-RefusesBy (Grammar g) old new = ⊥
-RefusesBy ReadFault old new = ⊥
-
--- the words are refused: the usage text is written, and nothing is read
-pub record Refuses (old new : Streams) (r : Report) : Type 0 where
-  pub answer : RefusesBy r.status old.sinks new.sinks
-  pub bare : IsBare r
-  pub text : new.text ≡ old.text
-  pub read_faults : new.read_faults ≡ old.read_faults
 
 -- a call that ends so does not touch the proof log
 abbrev pub SparesProof : Status → Type 0

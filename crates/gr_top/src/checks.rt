@@ -1,7 +1,7 @@
 // A formula and a proof log, checked.
 ghost use Rattle.std.specs.Prelude.{◌≡◌};
 ghost use Rattle.gr_text.specs.Places.{at_start};
-ghost use Rattle.gr_top.specs.CheckedLogs.{LogGives};
+ghost use Rattle.gr_top.specs.CheckedLogs.{LogGives, shown};
 ghost use Rattle.gr_top.specs.Checking.{Checks, Judges, output, sources};
 
 use crate::refusal_texts::write_check;
@@ -15,7 +15,7 @@ use gr_lrat::next_line;
 use gr_text::{Held, Scanner};
 use std::alloc::Global;
 
-/// How many bytes of a proof log are looked at. Each line has a byte at least, so there are fewer lines.
+/// How many bytes of a proof log are looked at.
 const MAX_LOG_BYTES: u64 = 1_099_511_627_776;
 
 /// Checks a proof log in text LRAT against a formula in DIMACS CNF, and writes to `out` what it comes to. All of
@@ -55,7 +55,8 @@ fn judge<A: Source, B: Source>(alloc: Global, cnf: &mut A, log: &mut B) -> Resul
 
 /// Checks a proof log from its start.
 fn check_log<B: Source>(alloc: Global, formula: &Formula, log: &mut B) -> Result<Status, Stop>
-    ensures { LogGives result formula.now (B.left log.old) (B.faults log.old) (B.faults log.new) }
+    ensures { LogGives result formula.now
+        (shown (B.left log.old) (B.faults log.old)) (shown (B.left log.new) (B.faults log.new)) }
 {
     let Ok(held) = Held::new(alloc, MAX_LOG_BYTES) else {
         return Err(Stop::OutOfMemory);
@@ -73,13 +74,14 @@ fn check_lines<B: Source>(
     requires { scanner.old.held ≡ at_start MAX_LOG_BYTES }
     ensures same { scanner.new.source.ghost_name ≡ scanner.old.source.ghost_name }
     ensures gives { LogGives result formula.now
-        (B.left scanner.old.source.now) (B.faults scanner.old.source.now) (B.faults scanner.new.source.now) }
+        (shown (B.left scanner.old.source.now) (B.faults scanner.old.source.now))
+        (shown (B.left scanner.new.source.now) (B.faults scanner.new.source.now)) }
 {
     let Ok(mut checker) = Checker::new(alloc, formula) else {
         return Err(Stop::OutOfMemory);
     };
     let mut last = false;
-    for _ in 0..MAX_LOG_BYTES {
+    'lines: loop {
         let numbered = match next_line(alloc, scanner, &mut last) {
             Ok(Some(numbered)) => numbered,
             Ok(None) => return Ok(finish_status(checker.finish())),
@@ -90,5 +92,4 @@ fn check_lines<B: Source>(
             Err(why) => return refused_status(numbered.number, why),
         }
     }
-    Err(Stop::OutOfMemory)
 }

@@ -4,7 +4,8 @@ ghost use Rattle.gr_logic.specs.Log.{HasIds};
 ghost use Rattle.gr_top.specs.Checking.{Checks, output, sources};
 ghost use Rattle.gr_top.specs.Commands.{IsCheck, IsSolve, IsUnlawful};
 ghost use Rattle.gr_top.specs.Sinks.{sinks, TellsRefutation, CutRefutation};
-ghost use Rattle.gr_top.specs.Solving.{streams, Answers, Solves, Refuses, SparesProof};
+ghost use Rattle.gr_top.specs.Refusing.{Refuses};
+ghost use Rattle.gr_top.specs.Solving.{streams, Answers, Solves, SparesProof};
 
 use crate::branching::{Decision, decide};
 use crate::checks::run_check;

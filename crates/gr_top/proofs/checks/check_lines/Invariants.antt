@@ -1,11 +1,12 @@
 use Rattle.std.proofs.Common.{◌≡◌, ◌≤◌, ◌^◌}
 use Rattle.gr_text.specs.Places.{known, limit_of}
+use Rattle.gr_lrat.specs.Answers.{to_pass}
 use Rattle.gr_top.proofs.JudgedLogs.{Follows}
 use Rattle.gr_top.proofs.checks.check_lines.Given as goal
 
 -- the lines so far were accepted, and those to come decide the log
-abbrev pub invariant-loop : goal.invariant-loop
-invariant-loop g l = record {
+abbrev pub invariant-lines : goal.invariant-lines
+invariant-lines g l = record {
   same : l.scanner.source.ghost_name ≡ l.fn.scanner.source.ghost_name;
   follows : Follows l.fn.formula (g.B.Source.left l.fn.scanner.source.now) l.checker l.last
       l.scanner.held (g.B.Source.left l.scanner.source.now);
@@ -13,3 +14,7 @@ invariant-loop g l = record {
   within : known l.scanner.held ≤ 2 ^ 40;
   grows : g.B.Source.faults l.fn.scanner.source.now ≤ g.B.Source.faults l.scanner.source.now;
 }
+
+-- each line has bytes
+abbrev pub decreases-lines : goal.decreases-lines
+decreases-lines g l = to_pass l.scanner.held

@@ -1,20 +1,16 @@
-use Rattle.std.proofs.Common.{◌≡◌}
+use Rattle.std.proofs.Common.{◌≡◌, refl}
 use Rattle.gr_top.specs.Checking.{sources}
-use Rattle.gr_top.proofs.Checked.{read-from, fault-from}
 use Rattle.gr_top.proofs.Checked.{log-judges, unread-judges}
 use Rattle.gr_top.proofs.checks.judge.Goals as goal
 
 pub returns-in-Ok : goal.returns-in-Ok
 returns-in-Ok g c =
-    log-judges c.check_log.result c.in-Ok.formula _ _
-    (read-from (g.A.Source.left c.args.cnf.now) (g.A.Source.left c.read.new.source) c.in-Ok.formula c.in-Ok.ensures.answer)
-    c.check_log.ensures
+    log-judges c.check_log.result c.in-Ok.formula _ _ c.in-Ok.ensures.answer c.check_log.ensures
 
 pub returns-in-Err-Grammar : goal.returns-in-Err-Grammar
 returns-in-Err-Grammar g c =
     let reads = rw c.in-Err-Grammar.field-0-is at c.in-Err-Grammar.ensures.answer in
-    rw c.in-Err-Grammar.fault-is
-    (fault-from (g.A.Source.left c.args.cnf.now) (g.A.Source.left c.read.new.source) c.in-Err-Grammar.fault reads)
+    rw c.in-Err-Grammar.fault-is (reads, refl)
 
 pub returns-in-Err-ReadFault : goal.returns-in-Err-ReadFault
 returns-in-Err-ReadFault g c =
@@ -22,4 +18,4 @@ returns-in-Err-ReadFault g c =
     let old = sources (left c.args.cnf.now) (g.A.Source.faults c.args.cnf.now) (g.B.Source.left c.args.log.now) (g.B.Source.faults c.args.log.now) in
     let new = sources (left c.read.new.source) (g.A.Source.faults c.read.new.source) (g.B.Source.left c.args.log.now) (g.B.Source.faults c.args.log.now) in
     let reads = rw c.in-Err-ReadFault.field-0-is at c.in-Err-ReadFault.ensures.answer in
-    unread-judges old new (c.in-Err-ReadFault.ensures.fault c.in-Err-ReadFault.field-0-is) reads
+    unread-judges old new (c.in-Err-ReadFault.ensures.fault c.in-Err-ReadFault.field-0-is) reads refl
