@@ -6,3 +6,4 @@ pub mod Skips
 pub mod Printing
 pub mod Taken
 pub mod Ends
+pub mod Readings

@@ -92,7 +92,7 @@ spaces-run (x ∷ xs) rest line last first n (suc room) more e r =
           rw (none, same) refl
     ]
 
-append_nil : (w : List ℕ) → w ++ [] ≡ w
+pub append_nil : (w : List ℕ) → w ++ [] ≡ w
 append_nil w = grind (arith, common_steps)
 
 -- a run of a token's bytes
@@ -121,7 +121,7 @@ word-run (x ∷ xs) rest line first word n (suc room) more e r =
           rw (none, same, append_nil word) refl
     ]
 
-blank-cases : (b : ℕ) → is_blank b ≡ true
+pub blank-cases : (b : ℕ) → is_blank b ≡ true
     → (is_line_feed b ≡ true) ⊎ ((is_line_feed b ≡ false) × (is_space b ≡ true))
 blank-cases b h =
     elim (bool_cases (is_line_feed b))

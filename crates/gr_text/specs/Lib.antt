@@ -1,4 +1,5 @@
 pub mod Tokens
 pub mod Places
 pub mod Scans
+pub mod Laws
 pub mod Printing
