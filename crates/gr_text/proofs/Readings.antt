@@ -1,12 +1,12 @@
 -- the marks of a text read it, and no others do
-use Rattle.std.proofs.Common.{◌≡◌, ◌∙◌, ℕ, zero, suc, ◌+◌, ◌-◌, ◌<◌, Bool, true, false, not, List, [], ◌∷◌, ◌++◌, length, refl, sym, ap, ap₂, subst, arith, inl, inr}
+use Rattle.std.proofs.Common.{◌≡◌, ◌∙◌, ℕ, zero, suc, ◌+◌, ◌-◌, ◌<◌, Bool, true, false, List, [], ◌∷◌, ◌++◌, length, refl, sym, ap, ap₂, subst, arith, inl, inr}
 use Rattle.std.specs.Prelude.{All}
 use Rattle.std.proofs.lemmas.List.{append_assoc, length-append}
 use Rattle.std.proofs.lemmas.List.Elements.{All-nil, All-cons, All-head, All-tail, All-push}
 use Rattle.std.proofs.lemmas.Grind.{common_steps}
-use Rattle.gr_text.specs.Tokens.{is_space, is_blank, is_line_feed, Mark, Word, Break, Stop, Cut, marks, marks_of}
+use Rattle.gr_text.specs.Tokens.{is_space, is_blank, Mark, Word, Break, Stop, Cut, marks}
 use Rattle.gr_text.specs.Places.{BeginsBlank}
-use Rattle.gr_text.specs.Laws.{IsGap, IsToken, Comes, Reads, line_of, line_ends, MarksReadTheText, NoOtherMarksReadIt, LinesAreCounted}
+use Rattle.gr_text.specs.Laws.{IsGap, Comes, Reads, line_of, line_ends, MarksReadTheText, NoOtherMarksReadIt, LinesAreCounted}
 use Rattle.gr_text.proofs.Marks.{spot, bool_cases, in_word, space-step, word-step, word-ends, blank-cases, append_nil}
 
 abbrev IsSpaceByte : ℕ → Type 0

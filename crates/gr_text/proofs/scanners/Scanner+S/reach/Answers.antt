@@ -2,7 +2,7 @@ use Rattle.std.proofs.Common.{◌∙◌, refl, sym, arith}
 use Rattle.gr_text.specs.Places.{between}
 use Rattle.gr_text.proofs.Marks.{spaces-stop}
 use Rattle.gr_text.proofs.Leads.{leads-spaces, leads-more}
-use Rattle.gr_text.proofs.Ends.{past-end, still-ended, still-empty}
+use Rattle.gr_text.proofs.Ends.{past-end, still-ended}
 use Rattle.gr_text.proofs.Taken.{takes-spaces, takes-on}
 use Rattle.gr_text.proofs.scanners.Scanner+S.reach.Goals as goal
 
