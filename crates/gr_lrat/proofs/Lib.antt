@@ -6,6 +6,7 @@ pub mod ListSteps
 pub mod AdditionSteps
 pub mod Reading
 pub mod Passing
+pub mod Cutting
 pub mod Written
 pub mod Digits
 pub mod RoundTrip

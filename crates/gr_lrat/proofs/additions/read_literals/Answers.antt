@@ -28,7 +28,7 @@ pub returns-then-is_byte-clause-tells : goal.returns-then-is_byte-clause-tells
 returns-then-is_byte-clause-tells g c =
     let m = c.read_hints.new.scanner in
     let zero_ : is_byte 48 c.tokens.scanner.held.token ≡ true =
-        rw c.token.ensures at (sym c.is_byte.ensures ∙ c.if-is_byte.true) in
+    rw c.token.ensures at (sym c.is_byte.ensures ∙ c.if-is_byte.true) in
     tells_then c.read_hints.result (λ read. spelling_of read.spelt) (λ read. read.end) _ _ _ _ m.held _ _
     (g.S.Source.left m.source.now)
     (zero_added c.args.id c.tokens.clause _ _ _ _ _ c.tokens.invariant.goes zero_)
@@ -38,9 +38,9 @@ pub returns-in-None-clause-tells : goal.returns-in-None-clause-tells
 returns-in-None-clause-tells g c =
     let m = c.misspelt.new.scanner in
     let other : is_byte 48 c.tokens.scanner.held.token ≡ false =
-        rw c.token.ensures at (sym c.is_byte.ensures ∙ c.if-is_byte.false) in
+    rw c.token.ensures at (sym c.is_byte.ensures ∙ c.if-is_byte.false) in
     let said : literal_said c.tokens.scanner.held.token ≡ None =
-        rw c.token-in-tokens.ensures at (sym c.in-None.ensures) in
+    rw c.token-in-tokens.ensures at (sym c.in-None.ensures) in
     tells_then c.misspelt.result (λ read. spelling_of read.spelt) (λ read. read.end) _ _ _ _ m.held _ _
     (g.S.Source.left m.source.now)
     (other_added c.args.id c.tokens.clause _ _ _ _ _ c.tokens.invariant.goes other said)
@@ -53,9 +53,9 @@ tokens-preserved g c =
     let gone = rw c.in-Ok-Token.field-0-is at c.in-Ok-Token.ensures.onward in
     let then = λ (ws : List (List ℕ)). addition_from c.args.id (c.tokens.clause ++ c.in-Some.lit ∷ []) ws in
     let other : is_byte 48 c.tokens.scanner.held.token ≡ false =
-        rw c.token.ensures at (sym c.is_byte.ensures ∙ c.if-is_byte.false) in
+    rw c.token.ensures at (sym c.is_byte.ensures ∙ c.if-is_byte.false) in
     let said : literal_said c.tokens.scanner.held.token ≡ Some c.in-Some.lit =
-        rw c.token-in-tokens.ensures at (sym c.in-Some.ensures) in
+    rw c.token-in-tokens.ensures at (sym c.in-Some.ensures) in
     let pushed : c.push.new.self ≡ c.tokens.clause ++ c.in-Some.lit ∷ [] = search rules in
     record {
       same = c.next_piece.ensures.same ∙ i.same;
@@ -75,9 +75,9 @@ returns-in-Ok-End-clause-tells g c =
     let n = c.next_piece.new.scanner in
     let then = λ (ws : List (List ℕ)). addition_from c.args.id (c.tokens.clause ++ c.in-Some.lit ∷ []) ws in
     let other : is_byte 48 c.tokens.scanner.held.token ≡ false =
-        rw c.token.ensures at (sym c.is_byte.ensures ∙ c.if-is_byte.false) in
+    rw c.token.ensures at (sym c.is_byte.ensures ∙ c.if-is_byte.false) in
     let said : literal_said c.tokens.scanner.held.token ≡ Some c.in-Some.lit =
-        rw c.token-in-tokens.ensures at (sym c.in-Some.ensures) in
+    rw c.token-in-tokens.ensures at (sym c.in-Some.ensures) in
     onward_ends _ then Misspelt c.in-Ok-End.end _ _ n.held _ _ (g.S.Source.left n.source.now)
     (literal_added c.args.id c.tokens.clause c.in-Some.lit _ _ _ _ _ c.tokens.invariant.goes other said)
     c.next_piece.ensures.keeps.grows
@@ -88,9 +88,9 @@ returns-in-Err-clause-tells g c =
     let n = c.next_piece.new.scanner in
     let then = λ (ws : List (List ℕ)). addition_from c.args.id (c.tokens.clause ++ c.in-Some.lit ∷ []) ws in
     let other : is_byte 48 c.tokens.scanner.held.token ≡ false =
-        rw c.token.ensures at (sym c.is_byte.ensures ∙ c.if-is_byte.false) in
+    rw c.token.ensures at (sym c.is_byte.ensures ∙ c.if-is_byte.false) in
     let said : literal_said c.tokens.scanner.held.token ≡ Some c.in-Some.lit =
-        rw c.token-in-tokens.ensures at (sym c.in-Some.ensures) in
+    rw c.token-in-tokens.ensures at (sym c.in-Some.ensures) in
     onward_fails _ then c.in-Err.failed _ _ n.held _ _ (g.S.Source.left n.source.now)
     (literal_added c.args.id c.tokens.clause c.in-Some.lit _ _ _ _ _ c.tokens.invariant.goes other said)
     c.next_piece.ensures.keeps.grows (c.in-Err.ensures.err then)

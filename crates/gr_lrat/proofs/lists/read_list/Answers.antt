@@ -40,7 +40,7 @@ returns-then-is_byte-clause-tells g c = λ made.
     let said = λ (ws : List (List ℕ)). listed made c.tokens.negative c.tokens.ids ws in
     let m = c.close_list.new.scanner in
     let zero_ : is_byte 48 c.next_piece.new.scanner.held.token ≡ true =
-        rw c.token.ensures at (sym c.is_byte.ensures ∙ c.if-is_byte.true) in
+    rw c.token.ensures at (sym c.is_byte.ensures ∙ c.if-is_byte.true) in
     tells_then c.close_list.result (λ read. made (list_of read.list)) (λ read. read.end) _ _ _ _ m.held _ _
     (g.S.Source.left m.source.now)
     (zero_listed made c.tokens.negative c.tokens.ids _ _ _ _ _ _ _ (c.tokens.invariant.goes made)
@@ -53,7 +53,7 @@ tokens-preserved-else-is_err g c =
     let k = c.next_piece.ensures.keeps in
     let gone = rw c.in-Ok-Token.field-0-is at c.in-Ok-Token.ensures.onward in
     let other : is_byte 48 c.next_piece.new.scanner.held.token ≡ false =
-        rw c.token.ensures at (sym c.is_byte.ensures ∙ c.if-is_byte.false) in
+    rw c.token.ensures at (sym c.is_byte.ensures ∙ c.if-is_byte.false) in
     let id_is = rw c.token-in-tokens.ensures at c.in-Id.ensures in
     let pushed : c.push.new.self ≡ c.tokens.ids ++ c.in-Id.id ∷ [] = search rules in
     record {
@@ -74,7 +74,7 @@ tokens-preserved g c =
     let k = c.next_piece.ensures.keeps in
     let gone = rw c.in-Ok-Token.field-0-is at c.in-Ok-Token.ensures.onward in
     let other : is_byte 48 c.next_piece.new.scanner.held.token ≡ false =
-        rw c.token.ensures at (sym c.is_byte.ensures ∙ c.if-is_byte.false) in
+    rw c.token.ensures at (sym c.is_byte.ensures ∙ c.if-is_byte.false) in
     let minus = rw c.token-in-tokens.ensures at c.in-Negative.ensures in
     record {
       same = c.next_piece.ensures.same ∙ i.same;
@@ -93,7 +93,7 @@ returns-in-Other-clause-tells g c = λ made.
     let said = λ (ws : List (List ℕ)). listed made c.tokens.negative c.tokens.ids ws in
     let m = c.no_list.new.scanner in
     let other : is_byte 48 c.next_piece.new.scanner.held.token ≡ false =
-        rw c.token.ensures at (sym c.is_byte.ensures ∙ c.if-is_byte.false) in
+    rw c.token.ensures at (sym c.is_byte.ensures ∙ c.if-is_byte.false) in
     let odd = rw c.token-in-tokens.ensures at c.in-Other.ensures in
     tells_then c.no_list.result (λ read. made (list_of read.list)) (λ read. read.end) _ _ _ _ m.held _ _
     (g.S.Source.left m.source.now)
