@@ -64,7 +64,9 @@ class Log:
             x, y = order[int(rng.random() * len(order))], order[int(rng.random() * len(order))]
             ids = by_pair.get(x * GROUP + y if x < y else y * GROUP + x)
             while ids:
-                at = len(ids) - 1 if near else int(rng.random() * len(ids))
+                at = int(rng.random() * len(ids))
+                if near:
+                    at = max(0, len(ids) - 1 - at % 4)
                 id = ids[at]
                 if id in clauses:
                     body, head = clauses[id]
