@@ -1,0 +1,5 @@
+pub mod Forced
+pub mod Conflicts
+pub mod Growing
+pub mod Verdicts
+pub mod WalkSteps

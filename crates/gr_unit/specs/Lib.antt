@@ -1,0 +1,3 @@
+pub mod Forcing
+pub mod Closing
+pub mod Strengthening
