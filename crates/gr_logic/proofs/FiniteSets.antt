@@ -54,7 +54,8 @@ contains-insert s l = λ i q. (
 
 -- which literal has the code
 tied-code : (q : Literal) (code : ℕ) → eq_by_cmp literal_cmp q (literal_of code) ≡ nat_eq (code_of q) code
-tied-code q code = eq_by_cmp-nat (code_of q) (code_of (literal_of code)) ∙ ap (nat_eq (code_of q)) (code_of-literal_of code)
+tied-code q code = eq_by_cmp-nat (code_of q) (code_of (literal_of code))
+    ∙ ap (nat_eq (code_of q)) (code_of-literal_of code)
 
 -- a code before the first flag has none
 flagged-before : (flags : List Bool) (code : ℕ) (q : Literal) → code_of q < code

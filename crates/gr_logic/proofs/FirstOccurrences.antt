@@ -17,12 +17,15 @@ abbrev pub without : Literal → List Literal → List Literal
 without l ls = filter (λ q. not (same_literal q l)) ls
 
 -- it has the other members of the list
-members-without : (l q : Literal) (ls : List Literal) → same_literal q l ≡ false → members (without l ls) q ≡ members ls q
+members-without : (l q : Literal) (ls : List Literal) → same_literal q l ≡ false
+    → members (without l ls) q ≡ members ls q
 members-without l q [] other = refl
 members-without l q (x ∷ xs) other =
-    elim (same_literal x l) as (λ b. same_literal x l ≡ b → members (if not b then x ∷ without l xs else without l xs) q ≡ (same_literal q x || members xs q)) [
+    elim (same_literal x l) as (λ b. same_literal x l ≡ b
+        → members (if not b then x ∷ without l xs else without l xs) q ≡ (same_literal q x || members xs q)) [
       | true ↦ λ same.
-          let apart : same_literal q x ≡ false = subst (λ y. same_literal q y ≡ false) (sym (same_literal-is x l same)) other in
+          let apart : same_literal q x ≡ false =
+              subst (λ y. same_literal q y ≡ false) (sym (same_literal-is x l same)) other in
           members-without l q xs other ∙ ap (λ b. b || members xs q) (sym apart)
       | false ↦ λ _. ap (λ b. same_literal q x || b) (members-without l q xs other)
     ] refl
@@ -31,10 +34,12 @@ members-without l q (x ∷ xs) other =
 without-other : (l q : Literal) (ls : List Literal) → members (without l ls) q ≡ true → same_literal q l ≡ false
 without-other l q [] m = absurd (cc)
 without-other l q (x ∷ xs) m =
-    elim (same_literal x l) as (λ b. same_literal x l ≡ b → members (if not b then x ∷ without l xs else without l xs) q ≡ true → same_literal q l ≡ false) [
+    elim (same_literal x l) as (λ b. same_literal x l ≡ b
+        → members (if not b then x ∷ without l xs else without l xs) q ≡ true → same_literal q l ≡ false) [
       | true ↦ λ _ m. without-other l q xs m
       | false ↦ λ apart m.
-          elim (same_literal q x) as (λ b. same_literal q x ≡ b → (b || members (without l xs) q) ≡ true → same_literal q l ≡ false) [
+          elim (same_literal q x) as (λ b. same_literal q x ≡ b → (b || members (without l xs) q) ≡ true
+              → same_literal q l ≡ false) [
             | true ↦ λ same _. subst (λ y. same_literal y l ≡ false) (sym (same_literal-is q x same)) apart
             | false ↦ λ _ m. without-other l q xs m
           ] refl m
@@ -43,7 +48,8 @@ without-other l q (x ∷ xs) m =
 pub members-first_occurrences : (c : List Literal) (q : Literal) → members (first_occurrences c) q ≡ members c q
 members-first_occurrences [] q = refl
 members-first_occurrences (l ∷ ls) q =
-    elim (same_literal q l) as (λ b. same_literal q l ≡ b → (b || members (without l (first_occurrences ls)) q) ≡ (b || members ls q)) [
+    elim (same_literal q l) as (λ b. same_literal q l ≡ b
+        → (b || members (without l (first_occurrences ls)) q) ≡ (b || members ls q)) [
       | true ↦ λ _. refl
       | false ↦ λ other. members-without l q (first_occurrences ls) other ∙ members-first_occurrences ls q
     ] refl
@@ -51,7 +57,9 @@ members-first_occurrences (l ∷ ls) q =
 -- a list and its end, without a literal
 new-without : (l x : Literal) (ls : List Literal) → l ∷ without l (with_new ls x) ≡ with_new (l ∷ without l ls) x
 new-without l x ls =
-    elim (same_literal x l) as (λ b. same_literal x l ≡ b → l ∷ without l (with_new ls x) ≡ (if b || members (without l ls) x then l ∷ without l ls else (l ∷ without l ls) ++ x ∷ [])) [
+    elim (same_literal x l) as (λ b. same_literal x l ≡ b
+        → l ∷ without l (with_new ls x) ≡ (if b || members (without l ls) x then l ∷ without l ls else
+        (l ∷ without l ls) ++ x ∷ [])) [
       | true ↦ λ same. ap (λ t. l ∷ t) (dropped same (members ls x))
       | false ↦ λ other.
           ap (λ t. l ∷ t) (kept other (members ls x))
@@ -59,22 +67,27 @@ new-without l x ls =
           ∙ ap (λ b. if b then l ∷ without l ls else (l ∷ without l ls) ++ x ∷ []) (sym (members-without l x ls other))
     ] refl
   where
-    at-end : (b : Bool) → same_literal x l ≡ b → without l (ls ++ x ∷ []) ≡ without l ls ++ (if not b then x ∷ [] else [])
-    at-end b is = filter-append (λ q. not (same_literal q l)) ls (x ∷ []) ∙ ap (λ s. without l ls ++ (if not s then x ∷ [] else [])) is
+    at-end : (b : Bool) → same_literal x l ≡ b
+        → without l (ls ++ x ∷ []) ≡ without l ls ++ (if not b then x ∷ [] else [])
+    at-end b is = filter-append (λ q. not (same_literal q l)) ls (x ∷ [])
+        ∙ ap (λ s. without l ls ++ (if not s then x ∷ [] else [])) is
 
     dropped : same_literal x l ≡ true → (b : Bool) → without l (if b then ls else ls ++ x ∷ []) ≡ without l ls
     dropped same true = refl
     dropped same false = at-end true same ∙ append-nil (without l ls)
 
-    kept : same_literal x l ≡ false → (b : Bool) → without l (if b then ls else ls ++ x ∷ []) ≡ (if b then without l ls else without l ls ++ x ∷ [])
+    kept : same_literal x l ≡ false → (b : Bool)
+        → without l (if b then ls else ls ++ x ∷ []) ≡ (if b then without l ls else without l ls ++ x ∷ [])
     kept other true = refl
     kept other false = at-end false other
 
-    grown : (b : Bool) → l ∷ (if b then without l ls else without l ls ++ x ∷ []) ≡ (if b then l ∷ without l ls else (l ∷ without l ls) ++ x ∷ [])
+    grown : (b : Bool) → l ∷ (if b then without l ls else without l ls ++ x ∷ []) ≡
+        (if b then l ∷ without l ls else (l ∷ without l ls) ++ x ∷ [])
     grown true = refl
     grown false = refl
 
-first_occurrences-push : (c : List Literal) (x : Literal) → first_occurrences (c ++ x ∷ []) ≡ with_new (first_occurrences c) x
+first_occurrences-push : (c : List Literal) (x : Literal)
+    → first_occurrences (c ++ x ∷ []) ≡ with_new (first_occurrences c) x
 first_occurrences-push [] x = refl
 first_occurrences-push (l ∷ ls) x =
     ap (λ t. l ∷ without l t) (first_occurrences-push ls x) ∙ new-without l x (first_occurrences ls)
@@ -100,13 +113,17 @@ IsApart c = (q : Literal) → members c q ≡ true → members c (negation q) �
 apart-push : (c : List Literal) (x : Literal) → IsApart c → members c (negation x) ≡ false → IsApart (c ++ x ∷ [])
 apart-push c x apart new q m =
     members-push_at (negation q) c x
-    ∙ elim (same_literal q x) as (λ b. same_literal q x ≡ b → (b || members c q) ≡ true → (same_literal (negation q) x || members c (negation q)) ≡ false) [
+    ∙ elim (same_literal q x) as (λ b. same_literal q x ≡ b → (b || members c q) ≡ true
+        → (same_literal (negation q) x || members c (negation q)) ≡ false) [
       | true ↦ λ same _.
-          subst (λ y. (same_literal (negation y) x || members c (negation y)) ≡ false) (sym (same_literal-is q x same)) (rw (negation-apart x) new)
+          subst (λ y. (same_literal (negation y) x || members c (negation y)) ≡ false)
+              (sym (same_literal-is q x same)) (rw (negation-apart x) new)
       | false ↦ λ _ m.
-          elim (same_literal (negation q) x) as (λ b. same_literal (negation q) x ≡ b → (b || members c (negation q)) ≡ false) [
+          elim (same_literal (negation q) x) as
+              (λ b. same_literal (negation q) x ≡ b → (b || members c (negation q)) ≡ false) [
             | true ↦ λ same.
-                let is : q ≡ negation x = sym (negation-negation q) ∙ ap negation (same_literal-is (negation q) x same) in
+                let is : q ≡ negation x = sym (negation-negation q)
+                    ∙ ap negation (same_literal-is (negation q) x same) in
                 absurd (cc (sym m, ap (members c) is, new))
             | false ↦ λ _. apart q m
           ] refl
@@ -125,7 +142,8 @@ members-take : (c : List Literal) (i : ℕ) (q : Literal) → members (take i c)
 members-take [] zero q m = m
 members-take [] (suc i) q m = m
 members-take (x ∷ xs) zero q m = absurd (cc)
-members-take (x ∷ xs) (suc i) q m = later (same_literal q x) (members (take i xs) q) (members xs q) (members-take xs i q) m
+members-take (x ∷ xs) (suc i) q m = later (same_literal q x) (members (take i xs) q) (members xs q)
+    (members-take xs i q) m
   where
     later : (s t u : Bool) → (t ≡ true → u ≡ true) → (s || t) ≡ true → (s || u) ≡ true
     later true t u f e = refl
@@ -146,7 +164,8 @@ tautology-at c i x within is m =
 one-variable : (a b : Literal) → a.index ≡ b.index → same_literal a b ≡ false → a ≡ negation b
 one-variable a b is other =
     let v : nat_eq a.index b.index ≡ true = grind (arith, nat_tests) in
-    let s : a.positive ≡ not b.positive = signs a.positive b.positive (sym (ap (λ t. t && same_sign a.positive b.positive) v) ∙ other) in
+    let s : a.positive ≡ not b.positive = signs a.positive b.positive
+        (sym (ap (λ t. t && same_sign a.positive b.positive) v) ∙ other) in
     λ i. record { index = is i; positive = s i }
   where
     signs : (s t : Bool) → same_sign s t ≡ false → s ≡ not t
@@ -168,7 +187,8 @@ normal-without l (x ∷ xs) normal = kept (same_literal x l) (normal-without l x
 
 normal-first_occurrences : (c : List Literal) → ¬ IsTautology c → IsNormal (first_occurrences c)
 normal-first_occurrences [] sound = tt
-normal-first_occurrences (l ∷ ls) sound = (other-variable, normal-without l (first_occurrences ls) (normal-first_occurrences ls behind))
+normal-first_occurrences (l ∷ ls) sound = (other-variable, normal-without l (first_occurrences ls)
+    (normal-first_occurrences ls behind))
   where
     behind : ¬ IsTautology ls
     behind t = sound (t.0, members-later t.0 l ls t.1, members-later (negation t.0) l ls t.2)
@@ -176,7 +196,8 @@ normal-first_occurrences (l ∷ ls) sound = (other-variable, normal-without l (f
     other-variable : (q : Literal) → members (without l (first_occurrences ls)) q ≡ true → q.index ≡ l.index → ⊥
     other-variable q m same =
         let is : q ≡ negation l = one-variable q l same (without-other l q (first_occurrences ls) m) in
-        let later : members ls q ≡ true = sym (members-first_occurrences ls q) ∙ without-within l q (first_occurrences ls) m in
+        let later : members ls q ≡ true = sym (members-first_occurrences ls q)
+            ∙ without-within l q (first_occurrences ls) m in
         sound (l, members-first l ls, members-later (negation l) l ls (subst (λ y. members ls y ≡ true) is later))
 
 pub normal-forms : NormalFormsAreNormal

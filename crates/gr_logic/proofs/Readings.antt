@@ -34,10 +34,13 @@ open-has : (set : LiteralSet) (c : List Literal) (l : Literal) → members (open
     → (members c l ≡ true) × (set (negation l) ≡ false)
 open-has set [] l m = absurd (cc)
 open-has set (x ∷ xs) l m =
-    elim (set (negation x)) as (λ b. set (negation x) ≡ b → members (if not b then x ∷ open_of set xs else open_of set xs) l ≡ true → (members (x ∷ xs) l ≡ true) × (set (negation l) ≡ false)) [
+    elim (set (negation x)) as (λ b. set (negation x) ≡ b
+        → members (if not b then x ∷ open_of set xs else open_of set xs) l ≡ true
+        → (members (x ∷ xs) l ≡ true) × (set (negation l) ≡ false)) [
       | true ↦ λ _ m. let rest = open-has set xs l m in (members-later l x xs rest.0, rest.1)
       | false ↦ λ open' m.
-          elim (same_literal l x) as (λ b. same_literal l x ≡ b → (b || members (open_of set xs) l) ≡ true → ((b || members xs l) ≡ true) × (set (negation l) ≡ false)) [
+          elim (same_literal l x) as (λ b. same_literal l x ≡ b → (b || members (open_of set xs) l) ≡ true
+              → ((b || members xs l) ≡ true) × (set (negation l) ≡ false)) [
             | true ↦ λ same _. (refl, ap (λ y. set (negation y)) (same_literal-is l x same) ∙ open')
             | false ↦ λ _ m. open-has set xs l m
           ] refl m
@@ -48,21 +51,26 @@ has-open : (set : LiteralSet) (c : List Literal) (l : Literal) → members c l �
     → members (open_of set c) l ≡ true
 has-open set [] l m open' = m
 has-open set (x ∷ xs) l m open' =
-    elim (same_literal l x) as (λ b. same_literal l x ≡ b → (b || members xs l) ≡ true → members (if not (set (negation x)) then x ∷ open_of set xs else open_of set xs) l ≡ true) [
-      | true ↦ λ same _. here (set (negation x)) (ap (λ y. set (negation y)) (sym (same_literal-is l x same)) ∙ open') same
+    elim (same_literal l x) as (λ b. same_literal l x ≡ b → (b || members xs l) ≡ true
+        → members (if not (set (negation x)) then x ∷ open_of set xs else open_of set xs) l ≡ true) [
+      | true ↦ λ same _. here (set (negation x))
+            (ap (λ y. set (negation y)) (sym (same_literal-is l x same)) ∙ open') same
       | false ↦ λ _ rest. there (set (negation x)) (has-open set xs l rest open')
     ] refl m
   where
-    here : (b : Bool) → b ≡ false → same_literal l x ≡ true → members (if not b then x ∷ open_of set xs else open_of set xs) l ≡ true
+    here : (b : Bool) → b ≡ false → same_literal l x ≡ true
+        → members (if not b then x ∷ open_of set xs else open_of set xs) l ≡ true
     here true e same = absurd (cc)
     here false e same = ap (λ b. b || members (open_of set xs) l) same
 
-    there : (b : Bool) → members (open_of set xs) l ≡ true → members (if not b then x ∷ open_of set xs else open_of set xs) l ≡ true
+    there : (b : Bool) → members (open_of set xs) l ≡ true
+        → members (if not b then x ∷ open_of set xs else open_of set xs) l ≡ true
     there true m = m
     there false m = members-later l x (open_of set xs) m
 
 -- the open literals are all this one
-only-open : (set : LiteralSet) (c : List Literal) (l : Literal) → OthersFalse set c l → list_all (same_literal l) (open_of set c) ≡ true
+only-open : (set : LiteralSet) (c : List Literal) (l : Literal) → OthersFalse set c l
+    → list_all (same_literal l) (open_of set c) ≡ true
 only-open set c l others = all (open_of set c) (λ q m. one q (same_literal q l) refl (open-has set c q m))
   where
     one : (q : Literal) (b : Bool) → same_literal q l ≡ b → (members c q ≡ true) × (set (negation q) ≡ false) → l ≡ q
@@ -72,14 +80,16 @@ only-open set c l others = all (open_of set c) (λ q m. one q (same_literal q l)
     all : (o : List Literal) → ((q : Literal) → members o q ≡ true → l ≡ q) → list_all (same_literal l) o ≡ true
     all [] each = refl
     all (x ∷ xs) each =
-        ap (λ b. b && list_all (same_literal l) xs) (subst (λ y. same_literal l y ≡ true) (each x (members-first x xs)) (same_literal-itself l))
+        ap (λ b. b && list_all (same_literal l) xs)
+            (subst (λ y. same_literal l y ≡ true) (each x (members-first x xs)) (same_literal-itself l))
         ∙ all xs (λ q m. each q (members-later q x xs m))
 
 all-one : (o : List Literal) (l q : Literal) → list_all (same_literal l) o ≡ true → members o q ≡ true → l ≡ q
 all-one [] l q all m = absurd (cc)
 all-one (x ∷ xs) l q all m =
     elim (same_literal q x) as (λ b. same_literal q x ≡ b → (b || members xs q) ≡ true → l ≡ q) [
-      | true ↦ λ same _. same_literal-is l x (and-first (same_literal l x) (list_all (same_literal l) xs) all) ∙ sym (same_literal-is q x same)
+      | true ↦ λ same _. same_literal-is l x (and-first (same_literal l x) (list_all (same_literal l) xs) all)
+            ∙ sym (same_literal-is q x same)
       | false ↦ λ _ m. all-one xs l q (and-second (same_literal l x) (list_all (same_literal l) xs) all) m
     ] refl m
 
@@ -92,7 +102,9 @@ reads-forces set c l m others open' = go (open_of set c) (only-open set c l othe
     go [] all has = absurd (cc)
     go (x ∷ xs) all has =
         let is : l ≡ x = same_literal-is l x (and-first (same_literal l x) (list_all (same_literal l) xs) all) in
-        let rest : list_all (same_literal x) xs ≡ true = subst (λ y. list_all (same_literal y) xs ≡ true) is (and-second (same_literal l x) (list_all (same_literal l) xs) all) in
+        let rest : list_all (same_literal x) xs ≡ true =
+            subst (λ y. list_all (same_literal y) xs ≡ true) is
+            (and-second (same_literal l x) (list_all (same_literal l) xs) all) in
         ap (λ b. if b then Forces x else Undecided) rest ∙ ap Forces (sym is)
 
 -- and a clause that forces a literal is such a clause
@@ -103,11 +115,14 @@ forces-reads set c l e =
     let is = open-has set c l one.0 in
     (is.0, ((λ q m other. falls q (set (negation q)) refl m other one.1), is.1))
   where
-    of : (x : Literal) (xs : List Literal) (b : Bool) → list_all (same_literal x) xs ≡ b → (if b then Forces x else Undecided) ≡ Forces l → (members (x ∷ xs) l ≡ true) × (list_all (same_literal l) (x ∷ xs) ≡ true)
+    of : (x : Literal) (xs : List Literal) (b : Bool) → list_all (same_literal x) xs ≡ b
+        → (if b then Forces x else Undecided) ≡ Forces l
+        → (members (x ∷ xs) l ≡ true) × (list_all (same_literal l) (x ∷ xs) ≡ true)
     of x xs true all e =
         let is : x ≡ l = cc in (
           subst (λ y. members (x ∷ xs) y ≡ true) is (members-first x xs),
-          subst (λ y. list_all (same_literal y) (x ∷ xs) ≡ true) is (ap (λ b. b && list_all (same_literal x) xs) (same_literal-itself x) ∙ all),
+          subst (λ y. list_all (same_literal y) (x ∷ xs) ≡ true) is
+              (ap (λ b. b && list_all (same_literal x) xs) (same_literal-itself x) ∙ all),
         )
     of x xs false all e = absurd (cc)
 
@@ -115,17 +130,20 @@ forces-reads set c l e =
     go [] e = absurd (cc)
     go (x ∷ xs) e = of x xs (list_all (same_literal x) xs) refl e
 
-    falls : (q : Literal) (b : Bool) → set (negation q) ≡ b → members c q ≡ true → same_literal q l ≡ false → list_all (same_literal l) (open_of set c) ≡ true → b ≡ true
+    falls : (q : Literal) (b : Bool) → set (negation q) ≡ b → members c q ≡ true → same_literal q l ≡ false
+        → list_all (same_literal l) (open_of set c) ≡ true → b ≡ true
     falls q true e m other all = refl
     falls q false e m other all =
         let is : l ≡ q = all-one (open_of set c) l q all (has-open set c q m e) in
-        let same : same_literal q l ≡ true = subst (λ y. same_literal q y ≡ true) (sym is) (same_literal-itself q) in absurd (cc (same, other))
+        let same : same_literal q l ≡ true = subst (λ y. same_literal q y ≡ true) (sym is) (same_literal-itself q) in
+            absurd (cc (same, other))
 
 -- a clause whose literals are all false is falsified
 pub reads-falsified : (set : LiteralSet) (c : List Literal) → AllFalse set c → reading set c ≡ Falsified
 reads-falsified set c falses = ap reading_of_open (none (open_of set c) (λ q m. open-has set c q m))
   where
-    none : (o : List Literal) → ((q : Literal) → members o q ≡ true → (members c q ≡ true) × (set (negation q) ≡ false)) → o ≡ []
+    none : (o : List Literal) → ((q : Literal) → members o q ≡ true
+        → (members c q ≡ true) × (set (negation q) ≡ false)) → o ≡ []
     none [] each = refl
     none (x ∷ xs) each =
         let open' = each x (members-first x xs) in
@@ -159,10 +177,12 @@ reading-set set c d same = at (reading set c) refl
 
     undecided : (r : Reading) → reading set c ≡ Undecided → reading set d ≡ r → Undecided ≡ r
     undecided Falsified e f =
-        let no : reading set c ≡ Falsified = reads-falsified set c (λ q m. falsified-reads set d f q (there q m)) in cc (no, e)
+        let no : reading set c ≡ Falsified = reads-falsified set c (λ q m. falsified-reads set d f q (there q m)) in
+            cc (no, e)
     undecided (Forces l) e f =
         let r = forces-reads set d l f in
-        let no : reading set c ≡ Forces l = reads-forces set c l (back l r.0) (λ q m other. r.1.0 q (there q m) other) r.1.1 in cc (no, e)
+        let no : reading set c ≡ Forces l = reads-forces set c l (back l r.0)
+            (λ q m other. r.1.0 q (there q m) other) r.1.1 in cc (no, e)
     undecided Undecided e f = refl
 
     at : (r : Reading) → reading set c ≡ r → reading set c ≡ reading set d
@@ -192,7 +212,8 @@ steps-set : (one other : Live) → ((id : ℕ) → family_of one id ≡ family_o
     → (hints : List ℕ) (set : LiteralSet) → steps one set hints ≡ steps other set hints
 steps-set one other same [] set = refl
 steps-set one other same (id ∷ ids) set =
-    after_hint-set id set (λ next. steps one next ids) (λ next. steps other next ids) (one id) (other id) (same id) (λ next. steps-set one other same ids next)
+    after_hint-set id set (λ next. steps one next ids) (λ next. steps other next ids) (one id) (other id) (same id)
+        (λ next. steps-set one other same ids next)
 
 pub negated-set : (c d : List Literal) → members c ≡ members d → negated c ≡ negated d
 negated-set c d same = λ i q. (negated-is c q ∙ ap (λ s. s (negation q)) same ∙ sym (negated-is d q)) i

@@ -27,7 +27,9 @@ walk-one k (l ∷ rest) kept x y (inl a) (inl b) = a.1 ∙ sym b.1
 walk-one k (l ∷ rest) kept x y (inl a) (inr b) = absurd (b.0 a.0)
 walk-one k (l ∷ rest) kept x y (inr a) (inl b) = absurd (a.0 b.0)
 walk-one k (l ∷ rest) kept x y (inr a) (inr b) =
-    past-one k kept l x y (WalkKeeps k kept rest x) (WalkKeeps k (kept ++ l ∷ []) rest x) (WalkKeeps k kept rest y) (WalkKeeps k (kept ++ l ∷ []) rest y) a.0 (walk-one k rest kept x y) (walk-one k rest (kept ++ l ∷ []) x y) a.1 b.1
+    past-one k kept l x y (WalkKeeps k kept rest x) (WalkKeeps k (kept ++ l ∷ []) rest x) (WalkKeeps k kept rest y)
+        (WalkKeeps k (kept ++ l ∷ []) rest y) a.0 (walk-one k rest kept x y)
+        (walk-one k rest (kept ++ l ∷ []) x y) a.1 b.1
 
 pub greedy-unique : GreedyIsUnique
 greedy-unique k c one other a b = walk-one k c [] one other a b
@@ -40,7 +42,8 @@ or-left false b e = absurd (cc)
 one-of : (kept rest : List Literal) (l q : Literal) → (members (kept ++ l ∷ []) q || members rest q) ≡ true
     → (members kept q || (same_literal q l || members rest q)) ≡ true
 one-of kept rest l q e =
-    any (members kept q) (same_literal q l) (members rest q) (sym (ap (λ b. b || members rest q) (members-push_at q kept l)) ∙ e)
+    any (members kept q) (same_literal q l) (members rest q)
+        (sym (ap (λ b. b || members rest q) (members-push_at q kept l)) ∙ e)
   where
     any : (k s r : Bool) → ((s || k) || r) ≡ true → (k || (s || r)) ≡ true
     any true s r e = refl
@@ -69,7 +72,8 @@ past-within k kept rest x l q A B same more m (inr (inr a)) = one-of kept rest l
 walk-within : (k : ClauseFamily) (rest kept x : List Literal) → WalkKeeps k kept rest x → (q : Literal)
     → members x q ≡ true → (members kept q || members rest q) ≡ true
 walk-within k [] kept x a q m = or-left (members kept q) false (sym (ap (λ t. members t q) a) ∙ m)
-walk-within k (l ∷ rest) kept x (inl a) q m = or-left (members kept q) (same_literal q l || members rest q) (sym (ap (λ t. members t q) a.1) ∙ m)
+walk-within k (l ∷ rest) kept x (inl a) q m =
+    or-left (members kept q) (same_literal q l || members rest q) (sym (ap (λ t. members t q) a.1) ∙ m)
 walk-within k (l ∷ rest) kept x (inr a) q m =
     past-within k kept rest x l q (WalkKeeps k kept rest x) (WalkKeeps k (kept ++ l ∷ []) rest x)
     (λ w. walk-within k rest kept x w q m) (λ w. walk-within k rest (kept ++ l ∷ []) x w q m) m a.1

@@ -15,11 +15,13 @@ literal_cmp a b = nat_cmp (code_of a) (code_of b)
 abbrev pub FiniteSet : Type 0
 FiniteSet = set.FinSet literal_cmp
 
--- a literal is stored as its index and its sign, and a set by its literals
+-- a literal is stored as its index and its sign
 abbrev literal_code : Coded Literal
 literal_code =
-    code_by (ℕ × Bool) (coded× coded_ℕ coded_bool) (λ l. (l.index, l.positive)) (λ p. record { index = p.0; positive = p.1 }) (λ _. refl)
+    code_by (ℕ × Bool) (coded× coded_ℕ coded_bool) (λ l. (l.index, l.positive))
+        (λ p. record { index = p.0; positive = p.1 }) (λ _. refl)
 
+-- a finite set is stored by its literals
 abbrev pub finite_set_code : Coded FiniteSet
 finite_set_code = set.code literal_code
 

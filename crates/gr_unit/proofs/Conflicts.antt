@@ -1,11 +1,10 @@
 -- conflicts of a list of derived literals
-use Rattle.std.proofs.Common.{◌≡◌, ◌↔◌, ◌⊎◌, ℕ, zero, suc, Bool, true, false, ◌||◌, List, [], ◌∷◌, Option, Some, None, inl, inr, refl, sym, ap, ◌∙◌, subst, slice_get}
+use Rattle.std.proofs.Common.{◌≡◌, ◌↔◌, ℕ, zero, suc, Bool, true, false, ◌||◌, List, [], ◌∷◌, Some, inl, inr, refl, ap, ◌∙◌, subst}
 use Rattle.std.specs.List.{list_any}
-use Rattle.std.specs.Option.{option_map}
 use Rattle.gr_logic.specs.Literals.{Literal, negation, same_literal}
-use Rattle.gr_logic.specs.Rup.{LiteralSet, members}
+use Rattle.gr_logic.specs.Rup.{members}
 use Rattle.gr_logic.specs.Log.{is_empty}
-use Rattle.gr_logic.specs.Closure.{listed, no_literals, InClosure, DerivesConflict}
+use Rattle.gr_logic.specs.Closure.{listed, no_literals, DerivesConflict}
 use Rattle.gr_logic.proofs.Sound.{same_literal-is}
 use Rattle.gr_logic.proofs.SameLiteral.{members-first, members-later}
 use Rattle.gr_unit.specs.Closing.{IsClosureOf, is_conflict_of}
@@ -15,7 +14,8 @@ or-true true = refl
 or-true false = refl
 
 -- some literal of the list passes a test
-any-member : (p : Literal → Bool) (ls : List Literal) → list_any p ls ≡ true → (l : Literal) × (members ls l ≡ true) × (p l ≡ true)
+any-member : (p : Literal → Bool) (ls : List Literal) → list_any p ls ≡ true
+    → (l : Literal) × (members ls l ≡ true) × (p l ≡ true)
 any-member p [] e = absurd (cc)
 any-member p (x ∷ xs) e = at (p x) refl e (any-member p xs)
   where
@@ -25,10 +25,12 @@ any-member p (x ∷ xs) e = at (p x) refl e (any-member p xs)
     at true passes e rest = (x, members-first x xs, passes)
     at false fails e rest = let found = rest e in (found.0, members-later found.0 x xs found.1, found.2)
 
-member-any : (p : Literal → Bool) (ls : List Literal) (l : Literal) → members ls l ≡ true → p l ≡ true → list_any p ls ≡ true
+member-any : (p : Literal → Bool) (ls : List Literal) (l : Literal) → members ls l ≡ true → p l ≡ true
+    → list_any p ls ≡ true
 member-any p [] l m passes = absurd (cc)
 member-any p (x ∷ xs) l m passes =
-    elim (same_literal l x) as (λ b. same_literal l x ≡ b → (b || members xs l) ≡ true → (p x || list_any p xs) ≡ true) [
+    elim (same_literal l x) as (λ b. same_literal l x ≡ b → (b || members xs l) ≡ true
+    → (p x || list_any p xs) ≡ true) [
       | true ↦ λ same _. ap (λ b. b || list_any p xs) (subst (λ y. p y ≡ true) (same_literal-is l x same) passes)
       | false ↦ λ _ m. ap (λ b. p x || b) (member-any p xs l m passes) ∙ or-true (p x)
     ] refl m
@@ -65,7 +67,8 @@ conflict-is cs given derived closure = (forth (list_any (λ l. members derived (
 
     back : DerivesConflict (listed cs) (members given) → is_conflict_of cs derived ≡ true
     back (inl two) =
-        ap (λ b. b || list_any is_empty cs) (member-any (λ l. members derived (negation l)) derived two.0 ((closure two.0).1 two.1.0) ((closure (negation two.0)).1 two.1.1))
+        ap (λ b. b || list_any is_empty cs) (member-any (λ l. members derived (negation l)) derived two.0
+        ((closure two.0).1 two.1.0) ((closure (negation two.0)).1 two.1.1))
     back (inr empty) =
         ap (λ b. list_any (λ l. members derived (negation l)) derived || b) (empty-any cs empty.0 empty.1)
         ∙ or-true (list_any (λ l. members derived (negation l)) derived)

@@ -1,14 +1,13 @@
 -- what a clause forces, by its first literal that is not false
-use Rattle.std.proofs.Common.{◌≡◌, ◌<◌, ℕ, Bool, true, false, ◌&&◌, ◌||◌, List, [], ◌∷◌, Option, Some, None, inl, inr, length, refl, sym, ap, ◌∙◌, subst, slice_index_or, slice_get, All}
-use Rattle.std.specs.List.{list_all}
+use Rattle.std.proofs.Common.{◌≡◌, Bool, true, false, ◌&&◌, ◌||◌, List, [], ◌∷◌, Some, inl, inr, refl, sym, ap, ◌∙◌, subst, All}
 use Rattle.std.specs.Option.{option_map}
-use Rattle.std.proofs.lemmas.Option.{slice_get-get_or, slice_get_cases}
+use Rattle.std.proofs.lemmas.Option.{slice_get_cases}
 use Rattle.gr_logic.specs.Literals.{Literal, negation, same_literal}
 use Rattle.gr_logic.specs.Rup.{LiteralSet, members}
 use Rattle.gr_logic.specs.Closure.{Forces, listed, IsClosedUnder}
 use Rattle.gr_logic.proofs.Sound.{same_literal-is}
-use Rattle.gr_logic.proofs.SameLiteral.{same_literal-itself, members-first, members-later}
-use Rattle.gr_unit.specs.Forcing.{others_false, AreAllFalse, HasForced, IsForcedAt}
+use Rattle.gr_logic.proofs.SameLiteral.{members-first, members-later}
+use Rattle.gr_unit.specs.Forcing.{others_false, AreAllFalse, HasForced}
 
 and-first : (a b : Bool) → (a && b) ≡ true → a ≡ true
 and-first true b e = refl
@@ -27,12 +26,16 @@ false-by-test set (x ∷ xs) l q test m other =
       | true ↦ λ same _.
           let is : q ≡ x = same_literal-is q x same in
           let apart : same_literal x l ≡ false = subst (λ y. same_literal y l ≡ false) is other in
-          subst (λ y. set (negation y) ≡ true) (sym is) (sym (ap (λ b. b || set (negation x)) apart) ∙ and-first (same_literal x l || set (negation x)) (others_false set xs l) test)
-      | false ↦ λ _ m. false-by-test set xs l q (and-second (same_literal x l || set (negation x)) (others_false set xs l) test) m other
+          subst (λ y. set (negation y) ≡ true) (sym is)
+          (sym (ap (λ b. b || set (negation x)) apart)
+          ∙ and-first (same_literal x l || set (negation x)) (others_false set xs l) test)
+      | false ↦ λ _ m. false-by-test set xs l q
+          (and-second (same_literal x l || set (negation x)) (others_false set xs l) test) m other
     ] refl m
 
 test-by-false : (set : LiteralSet) (c : List Literal) (l : Literal)
-    → ((q : Literal) → members c q ≡ true → same_literal q l ≡ false → set (negation q) ≡ true) → others_false set c l ≡ true
+    → ((q : Literal) → members c q ≡ true → same_literal q l ≡ false → set (negation q) ≡ true)
+    → others_false set c l ≡ true
 test-by-false set [] l each = refl
 test-by-false set (x ∷ xs) l each =
     ap (λ b. b && others_false set xs l) (first (same_literal x l) refl)
@@ -71,7 +74,9 @@ pub has-none : (set : LiteralSet) (c : List Literal) (open' : Literal) → membe
     → set (negation open') ≡ false → others_false set c open' ≡ false → HasForced set c
 has-none set c open' m free test l forced =
     let is : l ≡ open' = forced-is-open set c open' l m free forced in
-    let all : others_false set c open' ≡ true = test-by-false set c open' (subst (λ y. (q : Literal) → members c q ≡ true → same_literal q y ≡ false → set (negation q) ≡ true) is forced.others) in
+    let all : others_false set c open' ≡ true =
+    test-by-false set c open' (subst (λ y. (q : Literal) → members c q ≡ true → same_literal q y ≡ false
+    → set (negation q) ≡ true) is forced.others) in
     absurd (cc (all, test))
 
 -- where all clauses have what they force, the set is closed under the list

@@ -1,10 +1,10 @@
 -- the derived literals grow by what is forced
-use Rattle.std.proofs.Common.{◌≡◌, ◌≤◌, ◌<◌, ℕ, zero, suc, ◌+◌, Bool, true, false, ◌||◌, List, [], ◌∷◌, ◌++◌, Some, length, refl, sym, ap, ◌∙◌, subst, arith, slice_index_or, slice_get, if◌then◌else◌}
+use Rattle.std.proofs.Common.{◌≡◌, ◌≤◌, ◌<◌, ℕ, zero, suc, ◌+◌, Bool, true, false, ◌||◌, List, [], ◌∷◌, ◌++◌, refl, sym, ap, ◌∙◌, subst, arith, slice_index_or, if◌then◌else◌}
 use Rattle.std.specs.Option.{option_map}
 use Rattle.std.proofs.lemmas.Option.{slice_get-get_or}
-use Rattle.gr_logic.specs.Literals.{Literal, negation, same_literal}
+use Rattle.gr_logic.specs.Literals.{Literal, same_literal}
 use Rattle.gr_logic.specs.Rup.{LiteralSet, members}
-use Rattle.gr_logic.specs.Closure.{ClauseFamily, listed, IsWithin, Forces, InClosure}
+use Rattle.gr_logic.specs.Closure.{listed, IsWithin, InClosure}
 use Rattle.gr_logic.proofs.Members.{members-push_at}
 use Rattle.gr_logic.proofs.Sound.{same_literal-is}
 use Rattle.gr_logic.proofs.SameLiteral.{same_literal-itself, or-true}
@@ -67,7 +67,8 @@ clause-fewer : (c derived : List Literal) (l : Literal) → members c l ≡ true
     → unset_of (derived ++ l ∷ []) c < unset_of derived c
 clause-fewer [] derived l m new = absurd (cc)
 clause-fewer (x ∷ xs) derived l m new =
-    elim (same_literal l x) as (λ b. same_literal l x ≡ b → (b || members xs l) ≡ true → unset_of (derived ++ l ∷ []) (x ∷ xs) < unset_of derived (x ∷ xs)) [
+    elim (same_literal l x) as (λ b. same_literal l x ≡ b → (b || members xs l) ≡ true
+    → unset_of (derived ++ l ∷ []) (x ∷ xs) < unset_of derived (x ∷ xs)) [
       | true ↦ λ same _.
           let is : l ≡ x = same_literal-is l x same in
           let was : members derived x ≡ false = subst (λ y. members derived y ≡ false) is new in
@@ -75,7 +76,11 @@ clause-fewer (x ∷ xs) derived l m new =
           members-push_at x derived l ∙ rw (subst (λ y. same_literal y l ≡ true) is (same_literal-itself l)) refl in
           rw (was, now) (omega (arith, clause-less xs derived l))
       | false ↦ λ _ m.
-          rw members-push_at (omega (arith, ones (same_literal x l) (members derived x), clause-fewer xs derived l m new))
+          rw members-push_at (omega (
+            arith,
+            ones (same_literal x l) (members derived x),
+            clause-fewer xs derived l m new,
+          ))
     ] refl m
 
 pub push-fewer : (cs : List (List Literal)) (derived : List Literal) (place : ℕ) (l : Literal)

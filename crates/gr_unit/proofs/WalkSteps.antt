@@ -1,5 +1,5 @@
 -- one step of greedy strengthening through a list
-use Rattle.std.proofs.Common.{◌≡◌, ℕ, ◌+◌, ◌<◌, List, [], ◌∷◌, suc, length, drop, refl, sym, ap, ◌∙◌, subst, slice_index_or, add-one, drop-cons}
+use Rattle.std.proofs.Common.{◌≡◌, ℕ, ◌+◌, ◌<◌, List, ◌∷◌, suc, length, drop, sym, ap, ◌∙◌, subst, slice_index_or, add-one, drop-cons}
 use Rattle.gr_logic.specs.Literals.{Literal}
 use Rattle.gr_logic.specs.Closure.{ClauseFamily}
 use Rattle.gr_logic.specs.Greedy.{WalkKeeps}

@@ -17,7 +17,8 @@ use std::alloc::Global;
 /// that has a literal of a clause wherever it has the negations of the clause's other literals. It
 /// does not stop at a conflict.
 pub fn closure(alloc: Global, clauses: &[Clause], given: &[Lit]) -> Result<LitSet, OutOfMemory>
-    ensures { IfOk result (λ outcome. (l : Literal) → IsTrue (set.contains outcome l) ↔ InClosure (listed clauses.now) (members given.now) l) }
+    ensures { IfOk result (λ outcome.
+        (l : Literal) → IsTrue (set.contains outcome l) ↔ InClosure (listed clauses.now) (members given.now) l) }
 {
     let derived = derive(alloc, clauses, given)?;
     Ok(derived.into_set())

@@ -26,8 +26,7 @@ fn is_same(one: Lit, other: Lit) -> bool
 fn are_others_false(lits: &[Lit], lit: Lit, derived: &Derived) -> bool
     ensures { result ≡ others_false (members derived.now) lits.now lit }
 {
-    lits.iter()
-        .all(|other| is_same(*other, lit) || derived.has(other.negate()))
+    lits.iter().all(|other| is_same(*other, lit) || derived.has(other.negate()))
 }
 
 /// The first literal of the clause that is not false.
@@ -81,7 +80,8 @@ fn forced_in(lits: &[Lit], derived: &Derived) -> Option<Lit>
 fn forced_from(clauses: &[Clause], from: usize, derived: &Derived) -> Option<Forced>
     ensures forced { IfSome result (λ found. IsForcedAt clauses.now (members derived.now) found.place found.lit) }
     ensures new { IfSome result (λ found. members derived.now found.lit ≡ false) }
-    ensures none { IfNone result ((k : ℕ) (d : List Literal) → from ≤ k → k < length clauses.now → HasForced (members derived.now) (slice_index_or clauses.now k d)) }
+    ensures none { IfNone result ((k : ℕ) (d : List Literal) → from ≤ k → k < length clauses.now
+        → HasForced (members derived.now) (slice_index_or clauses.now k d)) }
 {
     for place in from..clauses.len() {
         if let Some(lit) = forced_in(clauses[place].lits(), derived) {

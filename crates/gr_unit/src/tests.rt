@@ -66,7 +66,10 @@ fn tells_conflicts(rt: HostRuntime) -> Result<(), Fail> {
         assert_eq!(rt; outcome, wanted, "of {given:?}");
     }
     clauses.push(Clause::new(alloc))?;
-    assert!(rt; bottom(alloc, clauses.as_slice(), &[])?, "with the empty clause");
+    assert!(rt;
+        bottom(alloc, clauses.as_slice(), &[])?,
+        "with the empty clause"
+    );
     Ok(())
 }
 

@@ -27,7 +27,8 @@ loop-lit-preserved c =
           ∙ sym (first_occurrences-next c.args.lits.now c.loop-lit.lit-index x c.loop-lit-test.true c.lit-item.is);
       seen = c.in_ok-push_unseen.ensures.seen;
       apart =
-          apart-next c.args.lits.now c.loop-lit.lit-index x c.loop-lit-test.true c.lit-item.is c.loop-lit.invariant.apart
+          apart-next c.args.lits.now c.loop-lit.lit-index x c.loop-lit-test.true c.lit-item.is
+              c.loop-lit.invariant.apart
           (members-front c.args.lits.now c.loop-lit.firsts c.loop-lit.lit-index (negation x) c.loop-lit.invariant.firsts
           ∙ sym (c.loop-lit.invariant.seen (negation x))
           ∙ ap (set.contains same_code c.loop-lit.seen) (sym c.negate.ensures)

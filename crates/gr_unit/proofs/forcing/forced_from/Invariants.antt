@@ -1,4 +1,4 @@
-use Rattle.std.proofs.Common.{◌≡◌, ◌≤◌, ◌<◌, ℕ, List, slice_index_or}
+use Rattle.std.proofs.Common.{◌≤◌, ◌<◌, ℕ, List, slice_index_or}
 use Rattle.gr_logic.specs.Literals.{Literal}
 use Rattle.gr_logic.specs.Rup.{members}
 use Rattle.gr_unit.specs.Forcing.{HasForced}

@@ -1,7 +1,6 @@
-use Rattle.std.proofs.Common.{◌≡◌, ◌∙◌, sym, true, false}
-use Rattle.gr_logic.specs.Literals.{negation}
+use Rattle.std.proofs.Common.{◌∙◌, sym}
 use Rattle.gr_logic.specs.Rup.{members}
-use Rattle.gr_unit.proofs.Forced.{forced-by-test, forced-by-falsity, has-open, has-none}
+use Rattle.gr_unit.proofs.Forced.{forced-by-test, has-none}
 use Rattle.gr_unit.proofs.forcing.forced_in.Goals as goal
 
 pub returns-then-are_others_false-clause-forced : goal.returns-then-are_others_false-clause-forced
