@@ -1,0 +1,13 @@
+-- the entry at the variable's index is what the trail has of it
+use Rattle.std.proofs.Common.{arith}
+use Rattle.gr_trail.proofs.Finds.{var_is, index_in_range, position_seen}
+use Rattle.gr_trail.proofs.trails.Trail.position.Goals as goal
+
+pub overflow_sub-var : goal.overflow_sub-var
+overflow_sub-var c = var_is c.self.invariant c.self.view_is c.args.var c.requires
+
+pub index-requires : goal.index-requires
+index-requires c = omega (arith, index_in_range c.self.invariant c.self.view_is c.args.var c.requires)
+
+pub returns : goal.returns
+returns c = position_seen c.self.invariant c.self.view_is c.args.var c.requires c.index.result.now c.index.ensures
