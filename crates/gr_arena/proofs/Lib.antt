@@ -1,0 +1,7 @@
+pub mod Runs
+pub mod Changes
+pub mod Steps
+pub mod Moved
+pub mod Relocating
+pub mod Compactions
+pub mod MovesRead
