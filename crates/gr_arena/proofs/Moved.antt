@@ -84,14 +84,14 @@ kept p q [] x y e = refl
 kept p q (b ∷ bs) x y e =
     let s : ℕ = size b.stored in
     elim b.live as (λ v. (if v then (if nat_eq x p then Some q else moved_at (p + s) (q + s) bs x) else moved_at (p + s) q bs x) ≡ Some y
-        → (if v then (if nat_eq y q then Some b.stored else new_at (q + s) bs y) else new_at q bs y) ≡ (if v then (if nat_eq x p then Some b.stored else old_at (p + s) bs x) else old_at (p + s) bs x)) [
+    → (if v then (if nat_eq y q then Some b.stored else new_at (q + s) bs y) else new_at q bs y) ≡ (if v then (if nat_eq x p then Some b.stored else old_at (p + s) bs x) else old_at (p + s) bs x)) [
       | true ↦ elim (nat_eq x p) as (λ t. (if t then Some q else moved_at (p + s) (q + s) bs x) ≡ Some y
           → (if nat_eq y q then Some b.stored else new_at (q + s) bs y) ≡ (if t then Some b.stored else old_at (p + s) bs x)) [
-        | true ↦ λ h. ap (λ t. if t then Some b.stored else new_at (q + s) bs y) (eq-eqb y q (sym (some_same q y h)))
-        | false ↦ λ h.
-            let r = bounds (p + s) (q + s) bs x y h in
-            ap (λ t. if t then Some b.stored else new_at (q + s) bs y) (ne_eqb y q (λ same. absurd (omega (arith, r.1, same)))) ∙ kept (p + s) (q + s) bs x y h
-      ]
+            | true ↦ λ h. ap (λ t. if t then Some b.stored else new_at (q + s) bs y) (eq-eqb y q (sym (some_same q y h)))
+            | false ↦ λ h.
+                let r = bounds (p + s) (q + s) bs x y h in
+                ap (λ t. if t then Some b.stored else new_at (q + s) bs y) (ne_eqb y q (λ same. absurd (omega (arith, r.1, same)))) ∙ kept (p + s) (q + s) bs x y h
+          ]
       | false ↦ λ h. kept (p + s) q bs x y h
     ] e
 
@@ -112,7 +112,7 @@ apart p q [] x r y e f = absurd (none_some y e)
 apart p q (b ∷ bs) x r y e f =
     let s : ℕ = size b.stored in
     elim b.live as (λ v. (if v then (if nat_eq x p then Some q else moved_at (p + s) (q + s) bs x) else moved_at (p + s) q bs x) ≡ Some y
-        → (if v then (if nat_eq r p then Some q else moved_at (p + s) (q + s) bs r) else moved_at (p + s) q bs r) ≡ Some y → x ≡ r) [
+    → (if v then (if nat_eq r p then Some q else moved_at (p + s) (q + s) bs r) else moved_at (p + s) q bs r) ≡ Some y → x ≡ r) [
       | true ↦ elim (nat_eq x p) as (λ t. nat_eq x p ≡ t → (if t then Some q else moved_at (p + s) (q + s) bs x) ≡ Some y → (if nat_eq r p then Some q else moved_at (p + s) (q + s) bs r) ≡ Some y → x ≡ r) [
         | true ↦ λ t h. elim (nat_eq r p) as (λ u. nat_eq r p ≡ u → (if u then Some q else moved_at (p + s) (q + s) bs r) ≡ Some y → x ≡ r) [
           | true ↦ λ u g. eqb-true x p t ∙ sym (eqb-true r p u)
@@ -131,7 +131,7 @@ onto p q [] y h = absurd (grind (arith, h))
 onto p q (b ∷ bs) y h =
     let s : ℕ = size b.stored in
     elim b.live as (λ v. IsSome (if v then (if nat_eq y q then Some b.stored else new_at (q + s) bs y) else new_at q bs y)
-        → (x : ℕ) × ((if v then (if nat_eq x p then Some q else moved_at (p + s) (q + s) bs x) else moved_at (p + s) q bs x) ≡ Some y)) [
+    → (x : ℕ) × ((if v then (if nat_eq x p then Some q else moved_at (p + s) (q + s) bs x) else moved_at (p + s) q bs x) ≡ Some y)) [
       | true ↦ elim (nat_eq y q) as (λ t. nat_eq y q ≡ t → IsSome (if t then Some b.stored else new_at (q + s) bs y) → (x : ℕ) × ((if nat_eq x p then Some q else moved_at (p + s) (q + s) bs x) ≡ Some y)) [
         | true ↦ λ t g. (p, ap (λ u. if u then Some q else moved_at (p + s) (q + s) bs p) (eq-eqb p p refl) ∙ ap Some (sym (eqb-true y q t)))
         | false ↦ λ t g.

@@ -135,9 +135,10 @@ module _ {ws : List Word} {p : ℕ} (n : Next ws p) (lt : p < length ws) (to : �
 -- all is copied where nothing is left
 pub none_left : {first ws ks : List Word} {p : ℕ} → Left first ws ks p → length ws ≤ p → (ws ≡ flat (forwarded 0 (blocks_in first))) × (ks ≡ flat (live (blocks_in first)))
 none_left {first = first} {ws = ws} {ks = ks} {p = p} l le =
-    let none : drop p ws ≡ [] = drop_all p ws le in
-    (sym (take_all p ws le) ∙ sym (append-nil (take p ws)) ∙ ap (λ z. take p ws ++ flat (forwarded (length ks) (blocks_in z))) (sym none) ∙ l.written,
-      sym (append-nil ks) ∙ ap (λ z. ks ++ flat (live (blocks_in z))) (sym none) ∙ l.copied)
+    let none : drop p ws ≡ [] = drop_all p ws le in (
+      sym (take_all p ws le) ∙ sym (append-nil (take p ws)) ∙ ap (λ z. take p ws ++ flat (forwarded (length ks) (blocks_in z))) (sym none) ∙ l.written,
+      sym (append-nil ks) ∙ ap (λ z. ks ++ flat (live (blocks_in z))) (sym none) ∙ l.copied,
+    )
 
 live_short : (bs : List Block) → length (flat (live bs)) ≤ length (flat bs)
 live_short [] = omega arith

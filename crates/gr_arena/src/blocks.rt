@@ -63,7 +63,11 @@ pub(crate) fn size_at(words: &[Word], place: usize) -> usize
     ensures { result ≡ 4 + count_in (bits_at words.now (place + 3)) }
 {
     let count = words[place + 3].bits;
-    4 + (if count < REMOVED { count } else { count - REMOVED }) as usize
+    4 + (if count < REMOVED {
+        count
+    } else {
+        count - REMOVED
+    }) as usize
 }
 
 /// Puts another number in the place of the id.
@@ -80,7 +84,12 @@ pub(crate) fn set_id(words: &mut [Word], place: usize, id: usize)
 }
 
 /// Appends the words of a clause.
-pub(crate) fn append(words: &mut Vec<Word>, id: u64, lbd: u32, lits: &[Lit]) -> Result<(), OutOfMemory>
+pub(crate) fn append(
+    words: &mut Vec<Word>,
+    id: u64,
+    lbd: u32,
+    lits: &[Lit],
+) -> Result<(), OutOfMemory>
     requires { length lits.now < 2_147_483_648 }
     ensures ok { OnOk result (words.new.items ≡ words.old.items ++ words_of (record { live = true; stored = record { id = id; lbd = lbd; lits = lits.now } })) }
     ensures within { OnOk result (All IsWithin lits.now) }

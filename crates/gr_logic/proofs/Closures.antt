@@ -22,8 +22,13 @@ closure-more few more part one other within l derived set given closed =
 conflict-more : (few more : ClauseFamily) → IsPartOf few more → (one other : LiteralSet) → IsWithin one other
     → DerivesConflict few one → DerivesConflict more other
 conflict-more few more part one other within (inl two) =
-    inl (two.0, (closure-more few more part one other within two.0 two.1.0,
-        closure-more few more part one other within (negation two.0) two.1.1))
+    inl (
+      two.0,
+      (
+        closure-more few more part one other within two.0 two.1.0,
+        closure-more few more part one other within (negation two.0) two.1.1,
+      ),
+    )
 conflict-more few more part one other within (inr empty) = inr (part empty.0 no_literals empty.1)
 
 pub closure-grows : ClosureGrows

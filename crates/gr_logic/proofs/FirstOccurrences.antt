@@ -22,10 +22,10 @@ members-without : (l q : Literal) (ls : List Literal) → same_literal q l ≡ f
 members-without l q [] other = refl
 members-without l q (x ∷ xs) other =
     elim (same_literal x l) as (λ b. same_literal x l ≡ b
-        → members (if not b then x ∷ without l xs else without l xs) q ≡ (same_literal q x || members xs q)) [
+    → members (if not b then x ∷ without l xs else without l xs) q ≡ (same_literal q x || members xs q)) [
       | true ↦ λ same.
           let apart : same_literal q x ≡ false =
-              subst (λ y. same_literal q y ≡ false) (sym (same_literal-is x l same)) other in
+          subst (λ y. same_literal q y ≡ false) (sym (same_literal-is x l same)) other in
           members-without l q xs other ∙ ap (λ b. b || members xs q) (sym apart)
       | false ↦ λ _. ap (λ b. same_literal q x || b) (members-without l q xs other)
     ] refl
@@ -35,11 +35,11 @@ without-other : (l q : Literal) (ls : List Literal) → members (without l ls) q
 without-other l q [] m = absurd (cc)
 without-other l q (x ∷ xs) m =
     elim (same_literal x l) as (λ b. same_literal x l ≡ b
-        → members (if not b then x ∷ without l xs else without l xs) q ≡ true → same_literal q l ≡ false) [
+    → members (if not b then x ∷ without l xs else without l xs) q ≡ true → same_literal q l ≡ false) [
       | true ↦ λ _ m. without-other l q xs m
       | false ↦ λ apart m.
           elim (same_literal q x) as (λ b. same_literal q x ≡ b → (b || members (without l xs) q) ≡ true
-              → same_literal q l ≡ false) [
+          → same_literal q l ≡ false) [
             | true ↦ λ same _. subst (λ y. same_literal y l ≡ false) (sym (same_literal-is q x same)) apart
             | false ↦ λ _ m. without-other l q xs m
           ] refl m
@@ -49,7 +49,7 @@ pub members-first_occurrences : (c : List Literal) (q : Literal) → members (fi
 members-first_occurrences [] q = refl
 members-first_occurrences (l ∷ ls) q =
     elim (same_literal q l) as (λ b. same_literal q l ≡ b
-        → (b || members (without l (first_occurrences ls)) q) ≡ (b || members ls q)) [
+    → (b || members (without l (first_occurrences ls)) q) ≡ (b || members ls q)) [
       | true ↦ λ _. refl
       | false ↦ λ other. members-without l q (first_occurrences ls) other ∙ members-first_occurrences ls q
     ] refl
@@ -58,8 +58,8 @@ members-first_occurrences (l ∷ ls) q =
 new-without : (l x : Literal) (ls : List Literal) → l ∷ without l (with_new ls x) ≡ with_new (l ∷ without l ls) x
 new-without l x ls =
     elim (same_literal x l) as (λ b. same_literal x l ≡ b
-        → l ∷ without l (with_new ls x) ≡ (if b || members (without l ls) x then l ∷ without l ls else
-        (l ∷ without l ls) ++ x ∷ [])) [
+    → l ∷ without l (with_new ls x) ≡ (if b || members (without l ls) x then l ∷ without l ls else
+    (l ∷ without l ls) ++ x ∷ [])) [
       | true ↦ λ same. ap (λ t. l ∷ t) (dropped same (members ls x))
       | false ↦ λ other.
           ap (λ t. l ∷ t) (kept other (members ls x))
@@ -114,16 +114,16 @@ apart-push : (c : List Literal) (x : Literal) → IsApart c → members c (negat
 apart-push c x apart new q m =
     members-push_at (negation q) c x
     ∙ elim (same_literal q x) as (λ b. same_literal q x ≡ b → (b || members c q) ≡ true
-        → (same_literal (negation q) x || members c (negation q)) ≡ false) [
+    → (same_literal (negation q) x || members c (negation q)) ≡ false) [
       | true ↦ λ same _.
           subst (λ y. (same_literal (negation y) x || members c (negation y)) ≡ false)
-              (sym (same_literal-is q x same)) (rw (negation-apart x) new)
+          (sym (same_literal-is q x same)) (rw (negation-apart x) new)
       | false ↦ λ _ m.
           elim (same_literal (negation q) x) as
-              (λ b. same_literal (negation q) x ≡ b → (b || members c (negation q)) ≡ false) [
+          (λ b. same_literal (negation q) x ≡ b → (b || members c (negation q)) ≡ false) [
             | true ↦ λ same.
                 let is : q ≡ negation x = sym (negation-negation q)
-                    ∙ ap negation (same_literal-is (negation q) x same) in
+                ∙ ap negation (same_literal-is (negation q) x same) in
                 absurd (cc (sym m, ap (members c) is, new))
             | false ↦ λ _. apart q m
           ] refl
@@ -165,7 +165,7 @@ one-variable : (a b : Literal) → a.index ≡ b.index → same_literal a b ≡ 
 one-variable a b is other =
     let v : nat_eq a.index b.index ≡ true = grind (arith, nat_tests) in
     let s : a.positive ≡ not b.positive = signs a.positive b.positive
-        (sym (ap (λ t. t && same_sign a.positive b.positive) v) ∙ other) in
+    (sym (ap (λ t. t && same_sign a.positive b.positive) v) ∙ other) in
     λ i. record { index = is i; positive = s i }
   where
     signs : (s t : Bool) → same_sign s t ≡ false → s ≡ not t
@@ -187,8 +187,11 @@ normal-without l (x ∷ xs) normal = kept (same_literal x l) (normal-without l x
 
 normal-first_occurrences : (c : List Literal) → ¬ IsTautology c → IsNormal (first_occurrences c)
 normal-first_occurrences [] sound = tt
-normal-first_occurrences (l ∷ ls) sound = (other-variable, normal-without l (first_occurrences ls)
-    (normal-first_occurrences ls behind))
+normal-first_occurrences (l ∷ ls) sound = (
+  other-variable,
+  normal-without l (first_occurrences ls)
+      (normal-first_occurrences ls behind),
+)
   where
     behind : ¬ IsTautology ls
     behind t = sound (t.0, members-later t.0 l ls t.1, members-later (negation t.0) l ls t.2)
@@ -197,7 +200,7 @@ normal-first_occurrences (l ∷ ls) sound = (other-variable, normal-without l (f
     other-variable q m same =
         let is : q ≡ negation l = one-variable q l same (without-other l q (first_occurrences ls) m) in
         let later : members ls q ≡ true = sym (members-first_occurrences ls q)
-            ∙ without-within l q (first_occurrences ls) m in
+        ∙ without-within l q (first_occurrences ls) m in
         sound (l, members-first l ls, members-later (negation l) l ls (subst (λ y. members ls y ≡ true) is later))
 
 pub normal-forms : NormalFormsAreNormal

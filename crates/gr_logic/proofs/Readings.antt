@@ -35,12 +35,12 @@ open-has : (set : LiteralSet) (c : List Literal) (l : Literal) → members (open
 open-has set [] l m = absurd (cc)
 open-has set (x ∷ xs) l m =
     elim (set (negation x)) as (λ b. set (negation x) ≡ b
-        → members (if not b then x ∷ open_of set xs else open_of set xs) l ≡ true
-        → (members (x ∷ xs) l ≡ true) × (set (negation l) ≡ false)) [
+    → members (if not b then x ∷ open_of set xs else open_of set xs) l ≡ true
+    → (members (x ∷ xs) l ≡ true) × (set (negation l) ≡ false)) [
       | true ↦ λ _ m. let rest = open-has set xs l m in (members-later l x xs rest.0, rest.1)
       | false ↦ λ open' m.
           elim (same_literal l x) as (λ b. same_literal l x ≡ b → (b || members (open_of set xs) l) ≡ true
-              → ((b || members xs l) ≡ true) × (set (negation l) ≡ false)) [
+          → ((b || members xs l) ≡ true) × (set (negation l) ≡ false)) [
             | true ↦ λ same _. (refl, ap (λ y. set (negation y)) (same_literal-is l x same) ∙ open')
             | false ↦ λ _ m. open-has set xs l m
           ] refl m
@@ -52,9 +52,9 @@ has-open : (set : LiteralSet) (c : List Literal) (l : Literal) → members c l �
 has-open set [] l m open' = m
 has-open set (x ∷ xs) l m open' =
     elim (same_literal l x) as (λ b. same_literal l x ≡ b → (b || members xs l) ≡ true
-        → members (if not (set (negation x)) then x ∷ open_of set xs else open_of set xs) l ≡ true) [
+    → members (if not (set (negation x)) then x ∷ open_of set xs else open_of set xs) l ≡ true) [
       | true ↦ λ same _. here (set (negation x))
-            (ap (λ y. set (negation y)) (sym (same_literal-is l x same)) ∙ open') same
+          (ap (λ y. set (negation y)) (sym (same_literal-is l x same)) ∙ open') same
       | false ↦ λ _ rest. there (set (negation x)) (has-open set xs l rest open')
     ] refl m
   where
@@ -81,7 +81,7 @@ only-open set c l others = all (open_of set c) (λ q m. one q (same_literal q l)
     all [] each = refl
     all (x ∷ xs) each =
         ap (λ b. b && list_all (same_literal l) xs)
-            (subst (λ y. same_literal l y ≡ true) (each x (members-first x xs)) (same_literal-itself l))
+        (subst (λ y. same_literal l y ≡ true) (each x (members-first x xs)) (same_literal-itself l))
         ∙ all xs (λ q m. each q (members-later q x xs m))
 
 all-one : (o : List Literal) (l q : Literal) → list_all (same_literal l) o ≡ true → members o q ≡ true → l ≡ q
@@ -89,7 +89,7 @@ all-one [] l q all m = absurd (cc)
 all-one (x ∷ xs) l q all m =
     elim (same_literal q x) as (λ b. same_literal q x ≡ b → (b || members xs q) ≡ true → l ≡ q) [
       | true ↦ λ same _. same_literal-is l x (and-first (same_literal l x) (list_all (same_literal l) xs) all)
-            ∙ sym (same_literal-is q x same)
+          ∙ sym (same_literal-is q x same)
       | false ↦ λ _ m. all-one xs l q (and-second (same_literal l x) (list_all (same_literal l) xs) all) m
     ] refl m
 
@@ -103,8 +103,8 @@ reads-forces set c l m others open' = go (open_of set c) (only-open set c l othe
     go (x ∷ xs) all has =
         let is : l ≡ x = same_literal-is l x (and-first (same_literal l x) (list_all (same_literal l) xs) all) in
         let rest : list_all (same_literal x) xs ≡ true =
-            subst (λ y. list_all (same_literal y) xs ≡ true) is
-            (and-second (same_literal l x) (list_all (same_literal l) xs) all) in
+        subst (λ y. list_all (same_literal y) xs ≡ true) is
+        (and-second (same_literal l x) (list_all (same_literal l) xs) all) in
         ap (λ b. if b then Forces x else Undecided) rest ∙ ap Forces (sym is)
 
 -- and a clause that forces a literal is such a clause
@@ -136,7 +136,7 @@ forces-reads set c l e =
     falls q false e m other all =
         let is : l ≡ q = all-one (open_of set c) l q all (has-open set c q m e) in
         let same : same_literal q l ≡ true = subst (λ y. same_literal q y ≡ true) (sym is) (same_literal-itself q) in
-            absurd (cc (same, other))
+        absurd (cc (same, other))
 
 -- a clause whose literals are all false is falsified
 pub reads-falsified : (set : LiteralSet) (c : List Literal) → AllFalse set c → reading set c ≡ Falsified
@@ -178,11 +178,11 @@ reading-set set c d same = at (reading set c) refl
     undecided : (r : Reading) → reading set c ≡ Undecided → reading set d ≡ r → Undecided ≡ r
     undecided Falsified e f =
         let no : reading set c ≡ Falsified = reads-falsified set c (λ q m. falsified-reads set d f q (there q m)) in
-            cc (no, e)
+        cc (no, e)
     undecided (Forces l) e f =
         let r = forces-reads set d l f in
         let no : reading set c ≡ Forces l = reads-forces set c l (back l r.0)
-            (λ q m other. r.1.0 q (there q m) other) r.1.1 in cc (no, e)
+        (λ q m other. r.1.0 q (there q m) other) r.1.1 in cc (no, e)
     undecided Undecided e f = refl
 
     at : (r : Reading) → reading set c ≡ r → reading set c ≡ reading set d
@@ -213,7 +213,7 @@ steps-set : (one other : Live) → ((id : ℕ) → family_of one id ≡ family_o
 steps-set one other same [] set = refl
 steps-set one other same (id ∷ ids) set =
     after_hint-set id set (λ next. steps one next ids) (λ next. steps other next ids) (one id) (other id) (same id)
-        (λ next. steps-set one other same ids next)
+    (λ next. steps-set one other same ids next)
 
 pub negated-set : (c d : List Literal) → members c ≡ members d → negated c ≡ negated d
 negated-set c d same = λ i q. (negated-is c q ∙ ap (λ s. s (negation q)) same ∙ sym (negated-is d q)) i

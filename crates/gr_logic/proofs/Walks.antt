@@ -28,8 +28,8 @@ walk-one k (l ∷ rest) kept x y (inl a) (inr b) = absurd (b.0 a.0)
 walk-one k (l ∷ rest) kept x y (inr a) (inl b) = absurd (a.0 b.0)
 walk-one k (l ∷ rest) kept x y (inr a) (inr b) =
     past-one k kept l x y (WalkKeeps k kept rest x) (WalkKeeps k (kept ++ l ∷ []) rest x) (WalkKeeps k kept rest y)
-        (WalkKeeps k (kept ++ l ∷ []) rest y) a.0 (walk-one k rest kept x y)
-        (walk-one k rest (kept ++ l ∷ []) x y) a.1 b.1
+    (WalkKeeps k (kept ++ l ∷ []) rest y) a.0 (walk-one k rest kept x y)
+    (walk-one k rest (kept ++ l ∷ []) x y) a.1 b.1
 
 pub greedy-unique : GreedyIsUnique
 greedy-unique k c one other a b = walk-one k c [] one other a b
@@ -43,7 +43,7 @@ one-of : (kept rest : List Literal) (l q : Literal) → (members (kept ++ l ∷ 
     → (members kept q || (same_literal q l || members rest q)) ≡ true
 one-of kept rest l q e =
     any (members kept q) (same_literal q l) (members rest q)
-        (sym (ap (λ b. b || members rest q) (members-push_at q kept l)) ∙ e)
+    (sym (ap (λ b. b || members rest q) (members-push_at q kept l)) ∙ e)
   where
     any : (k s r : Bool) → ((s || k) || r) ≡ true → (k || (s || r)) ≡ true
     any true s r e = refl

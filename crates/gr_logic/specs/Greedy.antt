@@ -20,7 +20,7 @@ WalkKeeps k kept (l ∷ rest) outcome =
     (DerivesConflict k (negated kept) × (outcome ≡ kept))
     ⊎ ((¬ DerivesConflict k (negated kept))
     × WalksPast k kept l (WalkKeeps k kept rest outcome) (outcome ≡ kept ++ l ∷ [])
-        (WalkKeeps k (kept ++ l ∷ []) rest outcome))
+    (WalkKeeps k (kept ++ l ∷ []) rest outcome))
 
 -- greedy strengthening of the clause keeps these literals
 abbrev pub GreedyKeeps : ClauseFamily → List Literal → List Literal → Type 0

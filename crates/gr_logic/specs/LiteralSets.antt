@@ -19,7 +19,7 @@ FiniteSet = set.FinSet literal_cmp
 abbrev literal_code : Coded Literal
 literal_code =
     code_by (ℕ × Bool) (coded× coded_ℕ coded_bool) (λ l. (l.index, l.positive))
-        (λ p. record { index = p.0; positive = p.1 }) (λ _. refl)
+    (λ p. record { index = p.0; positive = p.1 }) (λ _. refl)
 
 -- a finite set is stored by its literals
 abbrev pub finite_set_code : Coded FiniteSet

@@ -56,10 +56,8 @@ impl LitSet {
 /// Sets a flag. Where the list is too short it grows, by flags that are not set.
 fn set_flag(flags: &mut Vec<bool>, at: usize) -> Result<(), OutOfMemory>
     requires { at < 2_000_000 }
-    ensures ok {
-        OnOk result ((i : ℕ) → slice_index_or flags.new.items i false
-            ≡ (nat_eq i at || slice_index_or flags.old.items i false))
-    }
+    ensures ok { OnOk result ((i : ℕ) → slice_index_or flags.new.items i false
+        ≡ (nat_eq i at || slice_index_or flags.old.items i false)) }
     ensures err { OnErr result (flags.new.items ≡ flags.old.items) }
 {
     if at < flags.len() {

@@ -66,10 +66,18 @@ fn decides_formulas(rt: HostRuntime) -> Result<(), Fail> {
         (crlf, 10, "s SATISFIABLE\nv 1 -2 3 0\n", ""),
         (repeated, 10, "s SATISFIABLE\nv 1 2 0\n", ""),
         (FOUR_CLAUSES, 20, "s UNSATISFIABLE\n", four_log),
-        ("p cnf 1 2\n1 0\n-1 -0\n", 20, "s UNSATISFIABLE\n", "3 0 2 1 0\n"),
+        (
+            "p cnf 1 2\n1 0\n-1 -0\n",
+            20,
+            "s UNSATISFIABLE\n",
+            "3 0 2 1 0\n",
+        ),
     ];
     for (text, want, on_out, on_proof) in cases {
-        assert!(rt; is_solved(rt.alloc(), text, want, on_out, on_proof)?, "on {text:?}");
+        assert!(rt;
+            is_solved(rt.alloc(), text, want, on_out, on_proof)?,
+            "on {text:?}"
+        );
     }
     Ok(())
 }
@@ -193,7 +201,13 @@ fn leaves_no_verdict_where_a_stream_fails(rt: HostRuntime) -> Result<(), Fail> {
 }
 
 /// Whether `check` ends so on a formula and a log, and writes this, and nothing to the proof log.
-fn is_checked(alloc: Global, text: &str, lines: &str, want: u8, on_out: &str) -> Result<bool, Fail> {
+fn is_checked(
+    alloc: Global,
+    text: &str,
+    lines: &str,
+    want: u8,
+    on_out: &str,
+) -> Result<bool, Fail> {
     let words = words_of(alloc, &["check", "f.cnf", "f.lrat"])?;
     let mut cnf = source_of(alloc, text)?;
     let mut log = source_of(alloc, lines)?;
@@ -210,11 +224,17 @@ fn is_checked(alloc: Global, text: &str, lines: &str, want: u8, on_out: &str) ->
 fn verifies_proofs(rt: HostRuntime) -> Result<(), Fail> {
     let cases = [
         (FOUR_CLAUSES, "5 1 0 1 2 0\n6 0 5 3 4 0\n"),
-        (FOUR_CLAUSES, "c made by hand\n\n5 1 0 1 2 0\n5 d 1 2 0\n9223372036854775807 0 5 3 4 0"),
+        (
+            FOUR_CLAUSES,
+            "c made by hand\n\n5 1 0 1 2 0\n5 d 1 2 0\n9223372036854775807 0 5 3 4 0",
+        ),
         ("p cnf 0 1\n0\n", "2 0 1 0\n"),
     ];
     for (text, lines) in cases {
-        assert!(rt; is_checked(rt.alloc(), text, lines, 0, "s VERIFIED\n")?, "on {lines:?}");
+        assert!(rt;
+            is_checked(rt.alloc(), text, lines, 0, "s VERIFIED\n")?,
+            "on {lines:?}"
+        );
     }
     Ok(())
 }
@@ -222,8 +242,14 @@ fn verifies_proofs(rt: HostRuntime) -> Result<(), Fail> {
 #[test]
 fn tells_why_a_log_proves_nothing(rt: HostRuntime) -> Result<(), Fail> {
     let cases = [
-        ("5 1 0 1 2 0\n5 d 3 0\n6 0 5 3 4 0\n", "c log line 3: NotLive 3\n"),
-        ("c made by hand\n\n5 1 0 1 2 0\n6 0 5 4 0", "c log line 4: NoConflict 6\n"),
+        (
+            "5 1 0 1 2 0\n5 d 3 0\n6 0 5 3 4 0\n",
+            "c log line 3: NotLive 3\n",
+        ),
+        (
+            "c made by hand\n\n5 1 0 1 2 0\n6 0 5 4 0",
+            "c log line 4: NoConflict 6\n",
+        ),
         ("5 0 1 0\nnonsense\n", "c log line 1: HintNotUnit 1\n"),
         ("4 1 0 1 2 0\n", "c log line 1: IdNotGreater 4\n"),
         ("5 3 0 1 0\n", "c log line 1: VarAbove 5\n"),
@@ -235,7 +261,10 @@ fn tells_why_a_log_proves_nothing(rt: HostRuntime) -> Result<(), Fail> {
     for (lines, why) in cases {
         let alloc = rt.alloc();
         let told = format!(in alloc; "s NOT VERIFIED\n{why}")?;
-        assert!(rt; is_checked(alloc, FOUR_CLAUSES, lines, 1, told.as_str())?, "on {lines:?}");
+        assert!(rt;
+            is_checked(alloc, FOUR_CLAUSES, lines, 1, told.as_str())?,
+            "on {lines:?}"
+        );
     }
     Ok(())
 }
@@ -244,11 +273,22 @@ fn tells_why_a_log_proves_nothing(rt: HostRuntime) -> Result<(), Fail> {
 fn names_the_first_fault_of_a_log(rt: HostRuntime) -> Result<(), Fail> {
     let cases = [
         (FOUR_CLAUSES, "5 1 0 1 2", "c fault: log line 1: BadLine\n"),
-        (FOUR_CLAUSES, "5 1 0 1 2 0\n6 0 -5 3 4 0\n", "c fault: log line 2: RatHint\n"),
-        ("p cnf 1 1\n2 0\n", "nonsense\n", "c fault: line 2: VarAbove\n"),
+        (
+            FOUR_CLAUSES,
+            "5 1 0 1 2 0\n6 0 -5 3 4 0\n",
+            "c fault: log line 2: RatHint\n",
+        ),
+        (
+            "p cnf 1 1\n2 0\n",
+            "nonsense\n",
+            "c fault: line 2: VarAbove\n",
+        ),
     ];
     for (text, lines, on_out) in cases {
-        assert!(rt; is_checked(rt.alloc(), text, lines, 3, on_out)?, "on {lines:?}");
+        assert!(rt;
+            is_checked(rt.alloc(), text, lines, 3, on_out)?,
+            "on {lines:?}"
+        );
     }
     Ok(())
 }
@@ -273,7 +313,11 @@ fn checks_a_log_that_is_cut_at_each_byte(rt: HostRuntime) -> Result<(), Fail> {
             23 | 24 => 0,
             _ => 3,
         };
-        assert_eq!(rt; status_of_cut(rt.alloc(), lines, cut)?, want, "cut at byte {cut}");
+        assert_eq!(rt;
+            status_of_cut(rt.alloc(), lines, cut)?,
+            want,
+            "cut at byte {cut}"
+        );
     }
     Ok(())
 }

@@ -35,10 +35,18 @@ unwrap-requires c =
     let e = sym (live_read n c.loop-place-test.true) ∙ sym c.is_live.ensures ∙ c.if-is_live.true in
     let to = c.loop-place.place + c.size_at.result in
     let piece : take (to - c.loop-place.place) (drop c.loop-place.place c.loop-place.words) ≡ words_of n.block =
-      ap (λ k. take k (drop c.loop-place.place c.loop-place.words)) {y = size n.block.stored} (omega (arith, at)) ∙ block_words n c.loop-place-test.true in
+    ap (λ k. take k (drop c.loop-place.place c.loop-place.words)) {y = size n.block.stored} (omega (arith, at)) ∙ block_words n c.loop-place-test.true in
     c.extend_from_slice.ensures.succeeds
-    (omega (arith, ap length piece, ap length (live_counted n c.loop-place-test.true to at e), length-append (words_of n.block) (flat (live (blocks_in (drop to c.loop-place.words)))),
-      ap length c.loop-place.invariant.left.copied, length-append c.loop-place.kept.items (flat (live (blocks_in (drop c.loop-place.place c.loop-place.words)))), c.requires.room, c.loop-place.invariant.room))
+    (omega (
+      arith,
+      ap length piece,
+      ap length (live_counted n c.loop-place-test.true to at e),
+      length-append (words_of n.block) (flat (live (blocks_in (drop to c.loop-place.words)))),
+      ap length c.loop-place.invariant.left.copied,
+      length-append c.loop-place.kept.items (flat (live (blocks_in (drop c.loop-place.place c.loop-place.words)))),
+      c.requires.room,
+      c.loop-place.invariant.room,
+    ))
 
 pub loop-place-preserved-then-is_live : goal.loop-place-preserved-then-is_live
 loop-place-preserved-then-is_live c =
@@ -47,12 +55,12 @@ loop-place-preserved-then-is_live c =
     let e = sym (live_read n c.loop-place-test.true) ∙ sym c.is_live.ensures ∙ c.if-is_live.true in
     let to = c.loop-place.place + c.size_at.result in
     let piece : take (to - c.loop-place.place) (drop c.loop-place.place c.loop-place.words) ≡ words_of n.block =
-      ap (λ k. take k (drop c.loop-place.place c.loop-place.words)) {y = size n.block.stored} (omega (arith, at)) ∙ block_words n c.loop-place-test.true in
+    ap (λ k. take k (drop c.loop-place.place c.loop-place.words)) {y = size n.block.stored} (omega (arith, at)) ∙ block_words n c.loop-place-test.true in
     let count : c.len-to.result ≡ length c.loop-place.kept.items = omega (arith, c.len-to.ensures) in
     let more : c.extend_from_slice.new.self.items ≡ c.loop-place.kept.items ++ words_of n.block =
-      c.extend_from_slice.ensures.items
-      ∙ ap (λ r. if is_ok r then c.loop-place.kept.items ++ take (to - c.loop-place.place) (drop c.loop-place.place c.loop-place.words) else c.loop-place.kept.items) c.unwrap.ensures
-      ∙ ap (λ z. c.loop-place.kept.items ++ z) piece in
+    c.extend_from_slice.ensures.items
+    ∙ ap (λ r. if is_ok r then c.loop-place.kept.items ++ take (to - c.loop-place.place) (drop c.loop-place.place c.loop-place.words) else c.loop-place.kept.items) c.unwrap.ensures
+    ∙ ap (λ z. c.loop-place.kept.items ++ z) piece in
     record {
       left = subst (λ z. Left c.args.words.now z c.extend_from_slice.new.self.items to) (sym c.set_id.ensures)
           (copied_over n c.loop-place-test.true to at c.len-to.result count more c.loop-place.invariant.left e);

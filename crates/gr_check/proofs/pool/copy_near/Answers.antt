@@ -9,7 +9,7 @@ use Rattle.gr_check.proofs.pool.copy_near.Goals as goal
 pub loop-slot-init : goal.loop-slot-init
 loop-slot-init c =
     rw c.in_ok-moved.ensures.items
-    record { within = All-nil (IsRunWithin (length c.args.lits.now.items)); same = refl; }
+    record { within = All-nil (IsRunWithin (length c.args.lits.now.items)); same = refl }
 
 pub copy_slot-requires : goal.copy_slot-requires
 copy_slot-requires c = c.requires.within c.loop-slot.slot-index None c.loop-slot-test.true

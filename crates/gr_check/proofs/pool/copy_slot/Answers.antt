@@ -9,8 +9,12 @@ use Rattle.gr_check.proofs.pool.copy_slot.Goals as goal
 pub returns-clause-within : goal.returns-clause-within
 returns-clause-within c =
     rw c.in_ok-moved.ensures.lits
-    (omega (arith, length-append c.args.lits.now.items c.lits_at.result.now, c.in_ok-moved.ensures.run.0,
-    c.in_ok-moved.ensures.run.1))
+    (omega (
+      arith,
+      length-append c.args.lits.now.items c.lits_at.result.now,
+      c.in_ok-moved.ensures.run.0,
+      c.in_ok-moved.ensures.run.1,
+    ))
 
 pub returns-clause-same : goal.returns-clause-same
 returns-clause-same c =

@@ -26,7 +26,7 @@ loop-lit-preserved c =
           ∙ sym (first_occurrences-next c.args.lits.now c.loop-lit.lit-index x c.loop-lit-test.true c.lit-item.is);
       apart =
           apart-next c.args.lits.now c.loop-lit.lit-index x c.loop-lit-test.true c.lit-item.is
-              c.loop-lit.invariant.apart
+          c.loop-lit.invariant.apart
           (members-front c.args.lits.now c.loop-lit.firsts c.loop-lit.lit-index (negation x) c.loop-lit.invariant.firsts
           ∙ ap (λ ls. members ls (negation x)) (sym c.lits.ensures)
           ∙ ap (members c.lits.result.now) (sym c.negate.ensures)

@@ -28,7 +28,7 @@ loop-lit-preserved c =
       seen = c.in_ok-push_unseen.ensures.seen;
       apart =
           apart-next c.args.lits.now c.loop-lit.lit-index x c.loop-lit-test.true c.lit-item.is
-              c.loop-lit.invariant.apart
+          c.loop-lit.invariant.apart
           (members-front c.args.lits.now c.loop-lit.firsts c.loop-lit.lit-index (negation x) c.loop-lit.invariant.firsts
           ∙ sym (c.loop-lit.invariant.seen (negation x))
           ∙ ap (set.contains same_code c.loop-lit.seen) (sym c.negate.ensures)

@@ -20,8 +20,9 @@ place c = sym c.self.inside.words.ok.0 ∙ sym c.len-place.ensures
 
 -- what is seen after the clause was added
 added : (c : goal.In_ok-append) → arena_in c.append.new.words.items ≡ record {
-    clauses = map'.insert c.args.self.now.clauses (length c.self.inside.words.items) (record { id = c.args.id; lbd = c.args.lbd; lits = c.args.lits.now });
-    words = c.args.self.now.words + (4 + length c.args.lits.now) }
+  clauses = map'.insert c.args.self.now.clauses (length c.self.inside.words.items) (record { id = c.args.id; lbd = c.args.lbd; lits = c.args.lits.now });
+  words = c.args.self.now.words + (4 + length c.args.lits.now);
+}
 added c =
     add_arena c.self.inside.words.items c.args.self.now c.self.view_is c.self.invariant
     (record { id = c.args.id; lbd = c.args.lbd; lits = c.args.lits.now })

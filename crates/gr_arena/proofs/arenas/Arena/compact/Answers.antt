@@ -25,22 +25,22 @@ new-requires c = laid_moves c.self.view_is c.self.invariant (copied c) (written 
 pub invariant_of-self : goal.invariant_of-self
 invariant_of-self c =
     let copied' : c.replace.new.dest.items ≡ flat (live (blocks_in c.self.inside.words.items)) =
-      ap (λ words. words.items) c.replace.ensures.after ∙ c.relocate.ensures.kept
-      ∙ ap (λ z. flat (live (blocks_in z))) c.as_mut_slice.ensures.value in
+    ap (λ words. words.items) c.replace.ensures.after ∙ c.relocate.ensures.kept
+    ∙ ap (λ z. flat (live (blocks_in z))) c.as_mut_slice.ensures.value in
     let written' : c.replace.result.items ≡ flat (forwarded 0 (blocks_in c.self.inside.words.items)) =
-      ap (λ words. words.items) c.replace.ensures.value
-      ∙ with_items_is c.self.inside.words c.relocate.new.words (omega (arith, c.relocate.auto.words, c.as_mut_slice.ensures.len))
-      ∙ c.relocate.ensures.words ∙ ap (λ z. flat (forwarded 0 (blocks_in z))) c.as_mut_slice.ensures.value in
+    ap (λ words. words.items) c.replace.ensures.value
+    ∙ with_items_is c.self.inside.words c.relocate.new.words (omega (arith, c.relocate.auto.words, c.as_mut_slice.ensures.len))
+    ∙ c.relocate.ensures.words ∙ ap (λ z. flat (forwarded 0 (blocks_in z))) c.as_mut_slice.ensures.value in
     laid_new c.self.view_is c.self.invariant copied' written'
 
 pub returns-clause-ok : goal.returns-clause-ok
 returns-clause-ok c =
     let copied' : c.replace.new.dest.items ≡ flat (live (blocks_in c.self.inside.words.items)) =
-      ap (λ words. words.items) c.replace.ensures.after ∙ c.relocate.ensures.kept
-      ∙ ap (λ z. flat (live (blocks_in z))) c.as_mut_slice.ensures.value in
+    ap (λ words. words.items) c.replace.ensures.after ∙ c.relocate.ensures.kept
+    ∙ ap (λ z. flat (live (blocks_in z))) c.as_mut_slice.ensures.value in
     let written' : c.replace.result.items ≡ flat (forwarded 0 (blocks_in c.self.inside.words.items)) =
-      ap (λ words. words.items) c.replace.ensures.value
-      ∙ with_items_is c.self.inside.words c.relocate.new.words (omega (arith, c.relocate.auto.words, c.as_mut_slice.ensures.len))
-      ∙ c.relocate.ensures.words ∙ ap (λ z. flat (forwarded 0 (blocks_in z))) c.as_mut_slice.ensures.value in
+    ap (λ words. words.items) c.replace.ensures.value
+    ∙ with_items_is c.self.inside.words c.relocate.new.words (omega (arith, c.relocate.auto.words, c.as_mut_slice.ensures.len))
+    ∙ c.relocate.ensures.words ∙ ap (λ z. flat (forwarded 0 (blocks_in z))) c.as_mut_slice.ensures.value in
     subst (IsCompaction c.args.self.now (arena_in c.replace.new.dest.items)) (sym c.new.ensures)
     (compaction c.self.view_is c.self.invariant copied' written')

@@ -24,7 +24,7 @@ loop-id-init c =
     let start : c.into_iter-id-iterator.result ≡ c.self.inside.runs.far.entries =
     c.into_iter-id-iterator.ensures.into_iter_gives ∙ c.iter-id-items.ensures.rest in
     let moved : AreMoved c.self.inside.lits.items c.self.inside.runs.near.items
-        c.copy_near.new.lits.items c.in_ok-near.near.items =
+    c.copy_near.new.lits.items c.in_ok-near.near.items =
     rw (c.deref-2.ensures.value, c.deref.ensures.value) at c.in_ok-near.ensures in
     rw (c.new-far.ensures.empty, start, ← c.self.view_is)
     record {
@@ -39,7 +39,7 @@ loop-id-init c =
 pub loop-id-preserved-then-is_some : goal.loop-id-preserved-then-is_some
 loop-id-preserved-then-is_some c =
     let moved : AreMoved c.self.inside.lits.items c.self.inside.runs.near.items
-        c.copy_near.new.lits.items c.in_ok-near.near.items =
+    c.copy_near.new.lits.items c.in_ok-near.near.items =
     rw (c.deref-2.ensures.value, c.deref.ensures.value) at c.in_ok-near.ensures in
     let left : c.loop-id.id-iterator ≡ (c.in-Some.id.now, c.in-Some.run'.now) ∷ c.next.new.self =
     rest_more deref_pair c.loop-id.id-iterator c.next.new.self c.next.result
@@ -88,7 +88,7 @@ loop-id-preserved c =
     rest_more deref_pair c.loop-id.id-iterator c.next.new.self c.next.result
     (c.in-Some.id, c.in-Some.run') c.in-Some.is c.next.ensures.steps in
     let moved : AreMoved c.self.inside.lits.items c.self.inside.runs.near.items
-        c.copy_near.new.lits.items c.in_ok-near.near.items =
+    c.copy_near.new.lits.items c.in_ok-near.near.items =
     rw (c.deref-2.ensures.value, c.deref.ensures.value) at c.in_ok-near.ensures in
     let absent : is_some c.near_run.result ≡ false = sym c.is_some.ensures ∙ c.if-is_some.false in
     let none : get_or c.self.inside.runs.near.items c.in-Some.id.now None ≡ None =
