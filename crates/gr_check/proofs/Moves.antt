@@ -57,19 +57,20 @@ same_next old_lits lits c old new slot place all same one =
     ∙ ap (λ x. clauses_in old_lits old ++ x ∷ []) one
     ∙ sym (map-append (option_map (lits_of old_lits)) old (slot ∷ []))
 
+-- what holds of a run that is found
+pub found_within : (count : ℕ) (found : Option Run)
+    → ((run : Run) → found ≡ Some run → run.from + run.len ≤ count) → IsRunWithin count found
+found_within count None one = tt
+found_within count (Some run) one = one run refl
+
 -- what holds of each run that is found holds of all
 pub all_within : (count : ℕ) (slots : List (Option Run))
     → ((q : ℕ) (run : Run) → get_or slots q None ≡ Some run → run.from + run.len ≤ count)
     → All (IsRunWithin count) slots
 all_within count [] each = All-nil (IsRunWithin count)
 all_within count (slot ∷ slots) each =
-    All-cons (IsRunWithin count) slot slots (head slot (each 0))
+    All-cons (IsRunWithin count) slot slots (found_within count slot (each 0))
     (all_within count slots (λ q. each (suc q)))
-  where
-    head : (first : Option Run) → ((run : Run) → first ≡ Some run → run.from + run.len ≤ count)
-        → IsRunWithin count first
-    head None one = tt
-    head (Some run) one = one run refl
 
 -- one more run of a vector is moved
 pub moved_next : (old_lits lits c new_lits : List Literal) (old new more : List (Option Run)) (i : ℕ)

@@ -1,5 +1,5 @@
 -- clauses as runs of one list of literals
-use Rattle.std.specs.Prelude.{ℕ, ◌+◌, ◌<◌, ◌≤◌, ◌≡◌, List, [], map, length, take, drop, Option, Some, None, nat_eq, option_map, slice_index_or, All}
+use Rattle.std.specs.Prelude.{ℕ, ◌+◌, ◌<◌, ◌≤◌, ◌≡◌, List, [], map, length, take, drop, Option, Some, None, nat_eq, option_map, slice_index_or, slice_get, All}
 use Rattle.std.specs.Map.{lookup}
 use Rattle.std.specs.FinMap as finite
 use Rattle.gr_logic.specs.Literals.{Literal}
@@ -40,13 +40,17 @@ pub record AreMoved (old_lits : List Literal) (old : List (Option Run)) (lits : 
   pub within : All (IsRunWithin (length lits)) new
   pub same : clauses_in lits new ≡ clauses_in old_lits old
 
--- each place has the run of its id's clause, or nothing where no clause has the id
+-- each place has the run of its id's clause, or nothing where no clause has the id, and the firsts are these clauses'
+-- first literals
 pub record AreLocated (clauses : Clauses) (lits : List Literal) (ids : List ℕ)
-    (places : List (Option Run))
+    (places : List (Option Run)) (firsts : List (Option Literal))
     : Type 0 where
   pub count : length places ≡ length ids
+  pub count_firsts : length firsts ≡ length ids
   pub within : (k : ℕ) → k < length ids → (run : Run) → slice_index_or places k None ≡ Some run
       → run.from + run.len ≤ length lits
   pub found : (k : ℕ) → k < length ids
       → finite.get clauses (slice_index_or ids k 0)
       ≡ option_map (lits_of lits) (slice_index_or places k None)
+  pub first : (k : ℕ) → k < length ids
+      → slice_index_or firsts k None ≡ slice_get (lits_in lits (slice_index_or places k None)) 0

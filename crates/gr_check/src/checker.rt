@@ -30,6 +30,8 @@ pub struct Checker {
     marks: Marks,
     /// Where the clauses are that the line's hints name.
     places: Vec<Option<Run>>,
+    /// Their first literals.
+    firsts: Vec<Option<Lit>>,
     /// Ids of the deletion being checked; none between lines.
     leaving: HashSet<u64>,
 }
@@ -62,6 +64,7 @@ impl Checker {
             vars: formula.vars(),
             marks,
             places: Vec::new(alloc),
+            firsts: Vec::new(alloc),
             leaving: HashSet::new(alloc),
         })
     }
@@ -108,6 +111,7 @@ impl Checker {
         let outcome = unit_steps(
             &self.pool,
             &mut self.places,
+            &mut self.firsts,
             &mut self.marks,
             id,
             lemma,

@@ -1,5 +1,5 @@
 // The clauses that may be cited, their literals in one vector.
-ghost use Rattle.std.specs.Prelude.{◌≡◌, All, ◌≤◌, ◌+◌, ◌++◌, [], length, None, Some, IfOk, OnOk, OnErr, MatchOption, option_map};
+ghost use Rattle.std.specs.Prelude.{◌≡◌, All, ◌≤◌, ◌+◌, ◌++◌, [], length, None, Some, IfOk, OnOk, OnErr, MatchOption, option_map, slice_get};
 ghost use Rattle.std.specs.FinMap as map;
 ghost use Rattle.gr_check.specs.Runs.{lits_of, AreLocated, AreMoved, IsRunWithin, lits_in};
 
@@ -49,18 +49,23 @@ impl Pool {
         })
     }
 
-    /// Where the clauses of these ids are among the literals, which are lent. No look-up waits for
-    /// another, so the memory that they read is fetched side by side.
+    /// Where the clauses of these ids are among the literals, which are lent, and the first literal of each. None of
+    /// these reads waits for another, so the memory is fetched side by side, before a clause is read on.
     pub(crate) fn locate(
         &self,
         ids: &[u64],
         places: &mut Vec<Option<Run>>,
+        firsts: &mut Vec<Option<Lit>>,
     ) -> Result<&[Lit], OutOfMemory>
-        ensures { IfOk result (λ lits. AreLocated self.now lits.now ids.now places.new.items) }
+        ensures { IfOk result (λ lits. AreLocated self.now lits.now ids.now places.new.items firsts.new.items) }
     {
         places.clear();
+        firsts.clear();
         for id in ids {
-            places.push(self.runs.get(*id))?;
+            let place = self.runs.get(*id);
+            let first = first_at(&self.lits, place);
+            places.push(place)?;
+            firsts.push(first)?;
         }
         Ok(self.lits.as_slice())
     }
@@ -202,4 +207,15 @@ pub(crate) fn lits_at(lits: &[Lit], run: Run) -> &[Lit]
 {
     let from = run.from as usize;
     &lits[from..from + run.len as usize]
+}
+
+/// The first literal of a run, if there are both.
+fn first_at(lits: &[Lit], place: Option<Run>) -> Option<Lit>
+    requires { IsRunWithin (length lits.now) place }
+    ensures { result ≡ slice_get (lits_in lits.now place) 0 }
+{
+    match place {
+        None => None,
+        Some(run) => lits_at(lits, run).first().copied(),
+    }
 }

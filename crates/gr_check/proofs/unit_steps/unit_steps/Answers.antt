@@ -1,11 +1,11 @@
 -- one more literal of the lemma is marked
 use Rattle.std.proofs.Common.{◌≡◌, ◌∙◌, ◌+◌, ℕ, ap, sym, arith, drop, get_or, Some, None}
 use Rattle.std.proofs.lemmas.Grind.{common_steps}
-use Rattle.std.specs.Prelude.{option_map}
+use Rattle.std.specs.Prelude.{option_map, slice_get}
 use Rattle.std.specs.FinMap.{get}
 use Rattle.gr_logic.specs.Literals.{negation}
 use Rattle.gr_logic.specs.Rup.{with_literal, members, steps}
-use Rattle.gr_check.specs.Runs.{lits_of}
+use Rattle.gr_check.specs.Runs.{lits_of, lits_in}
 use Rattle.gr_check.proofs.Hints.{steps-forces, steps-falsified}
 use Rattle.gr_check.proofs.Negations.{negated-next}
 use Rattle.gr_check.proofs.unit_steps.unit_steps.Goals as goal
@@ -54,3 +54,13 @@ loop-i-preserved c =
           c.in-Forces.lit c.loop-i-test.true clause (sym c.in-Forces.ensures.reading)
           ∙ c.loop-i.invariant.same_answer;
     }
+
+pub read_clause-requires-clause-first : goal.read_clause-requires-clause-first
+read_clause-requires-clause-first c =
+    let place : get_or c.locate.new.places.items c.loop-i.i None ≡ Some c.in-Some.run' =
+    grind (arith, common_steps) in
+    let first : get_or c.locate.new.firsts.items c.loop-i.i None ≡ c.index-in-Some.result.now =
+    grind (arith, common_steps) in
+    sym first ∙ c.in_ok-lits.ensures.first c.loop-i.i c.loop-i-test.true
+    ∙ ap (λ x. slice_get (lits_in c.in_ok-lits.lits.now x) 0) place
+    ∙ ap (λ ls. slice_get ls 0) (sym c.lits_at.ensures)
