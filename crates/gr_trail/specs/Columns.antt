@@ -13,6 +13,7 @@ truth_of Open = None
 truth_of True = Some true
 truth_of False = Some false
 
+-- read past the end alone
 abbrev pub no_entry : Entry
 no_entry = record { level = 0; position = 0; reason = None }
 
@@ -41,18 +42,23 @@ made_true values l = slice_set (slice_set values (code_of l) True) (code_of (neg
 -- these literals and their negations are open
 abbrev pub cleared : List Value → List Literal → List Value
 cleared values [] = values
-cleared values (l ∷ ls) = cleared (slice_set (slice_set values (code_of l) Open) (code_of (negation l)) Open) ls
+cleared values (l ∷ ls) = cleared (slice_set (slice_set values (code_of l) Open)
+    (code_of (negation l)) Open) ls
 
 -- the columns tell one trail
-pub record IsStored (values : List Value) (entries : List Entry) (lits : List Literal) (len : ℕ) (starts : List ℕ) (depth : ℕ) : Type 0 where
+pub record IsStored (values : List Value) (entries : List Entry) (lits : List Literal) (len : ℕ)
+    (starts : List ℕ) (depth : ℕ) : Type 0 where
   pub small : length entries ≤ 1_000_000
   pub value_room : length values ≡ 2 * length entries
   pub lit_room : length lits ≡ length entries
   pub start_room : length starts ≡ length entries
   pub short : len ≤ length lits
   pub within : All (λ l. l.index < length entries) (take len lits)
-  pub value : (l : Literal) → truth_of (slice_index_or values (code_of l) Open) ≡ value_in (assigned_in entries (take len lits)) l
-  pub position : (k : ℕ) (d : Literal) → k < len → (entry_of entries (slice_index_or lits k d)).position ≡ k
+  pub value : (l : Literal) → truth_of (slice_index_or values (code_of l) Open)
+      ≡ value_in (assigned_in entries (take len lits)) l
+  pub position : (k : ℕ) (d : Literal) → k < len
+      → (entry_of entries (slice_index_or lits k d)).position ≡ k
   pub climbs : Climbs 0 (assigned_in entries (take len lits)) depth
   pub start : (b : ℕ) → b < depth → slice_index_or starts b 0 ≤ len
-  pub level : (b : ℕ) → b < depth → assigned_in entries (take (slice_index_or starts b 0) lits) ≡ up_to b (assigned_in entries (take len lits))
+  pub level : (b : ℕ) → b < depth → assigned_in entries (take (slice_index_or starts b 0) lits)
+      ≡ up_to b (assigned_in entries (take len lits))

@@ -42,7 +42,9 @@ impl Model for Trail {
 
     ghost view = { λ trail. trail_in trail.entries.items trail.lits.items trail.len trail.depth };
 
-    ghost invariant = { λ trail. IsStored trail.values.items trail.entries.items trail.lits.items trail.len trail.starts.items trail.depth };
+    ghost invariant = { λ trail.
+        IsStored trail.values.items trail.entries.items trail.lits.items trail.len
+            trail.starts.items trail.depth };
 }
 
 impl Trail {
@@ -118,7 +120,9 @@ impl Trail {
     pub fn assign(&mut self, lit: Lit, reason: Place)
         requires within { lit.index < self.old.vars }
         requires unassigned { value_in self.old.assigned lit ≡ None }
-        ensures { self.new ≡ record self.old { assigned = self.old.assigned ++ record { lit = lit; level = self.old.depth; reason = Some reason } ∷ [] } }
+        ensures { self.new ≡ record self.old {
+            assigned = self.old.assigned
+                ++ record { lit = lit; level = self.old.depth; reason = Some reason } ∷ [] } }
     {
         let entry = Entry {
             level: self.depth,
@@ -139,7 +143,10 @@ impl Trail {
     pub fn decide(&mut self, lit: Lit)
         requires within { lit.index < self.old.vars }
         requires unassigned { value_in self.old.assigned lit ≡ None }
-        ensures { self.new ≡ record self.old { depth = self.old.depth + 1; assigned = self.old.assigned ++ record { lit = lit; level = self.old.depth + 1; reason = None } ∷ [] } }
+        ensures { self.new ≡ record self.old {
+            depth = self.old.depth + 1;
+            assigned = self.old.assigned
+                ++ record { lit = lit; level = self.old.depth + 1; reason = None } ∷ [] } }
     {
         self.starts[self.depth as usize] = self.len as u32;
         self.depth += 1;
