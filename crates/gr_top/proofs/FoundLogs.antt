@@ -9,6 +9,7 @@ use Rattle.gr_logic.specs.Formulas.{Cnf}
 use Rattle.gr_logic.specs.Log.{LogState, Cause, opening, line_cause, after_line}
 use Rattle.gr_lrat.specs.Lines.{Spelling, Nothing, Spelled, Misspelt, HasNegativeHint, spelling}
 use Rattle.gr_lrat.specs.Logs.{LogEnd, AtEnd, AtBadLine, AtRatHint, AtLimit, LogRead, NumberedLine, with_line, log_from, log_read, log_outcome, LogOutcome, Verified, NoEmptyClause, Refused, BadLine, RatHint, TooLong, outcome_at, refused_or, outcome_from}
+use Rattle.gr_lrat.proofs.Cutting.{log_outcome_cut}
 use Rattle.gr_top.specs.CheckedLogs.{Finds, FindsNothing, IsAllRead}
 
 -- where the log's text is told, this comes of so many bytes of it
@@ -163,17 +164,6 @@ all-read f outcome (Some t) q None takes is whole text rest given left = absurd 
 all-read f outcome (Some t) q (Some u) takes is whole text rest given left =
     all-read-rest outcome rest (sym (content left) ∙ all-read-told f outcome t u q takes is whole)
 
--- under a limit that is not beyond the front, the marks are those of the front
-marks-front : (a rest : List ℕ) (s : Spot) (room : ℕ) → room ≤ length a → marks s room (a ++ rest) ≡ marks s room a
-marks-front a rest s zero within = refl
-marks-front [] rest s (suc room) within = absurd (omega (arith, within))
-marks-front (b ∷ a) rest s (suc room) within =
-    ap (λ ms. made_known s b ++ ms) (marks-front a rest (beyond s b) room (omega (arith, within)))
-
--- what comes of a log with these marks
-abbrev marked : Cnf → List Mark → LogOutcome
-marked f ms = let read = log_from [] ms in outcome_from (opening f) read.lines read.end
-
 -- where a log is cut at what was taken, that decides nothing
 pub finds-nothing : (f : Cnf) (told : Option (List ℕ)) (q : Place) (r : Option (List ℕ)) (line : ℕ)
     → Takes (at_start (2 ^ 40)) told q r → known q ≤ 2 ^ 40 → IsOutcome (taken q) told f (TooLong line)
@@ -187,7 +177,7 @@ finds-nothing f (Some text) q (Some rest) line takes within is =
       within = omega (arith, takes.count, within);
       line = line;
       outcome =
-          ap (marked f) (sym (marks-front takes.piece rest front (length takes.piece) (omega arith)))
+          sym (log_outcome_cut f takes.piece rest)
           ∙ ap (λ t. log_outcome f t (length takes.piece)) (sym split)
           ∙ ap (log_outcome f text) (sym count)
           ∙ is;
