@@ -1,5 +1,6 @@
 pub mod Runs
 pub mod Changes
+pub mod Places
 pub mod Steps
 pub mod Moved
 pub mod Relocating

@@ -5,10 +5,11 @@ use Rattle.std.specs.Ordering.{nat_cmp}
 use Rattle.std.specs.FinMap as map'
 use Rattle.gr_logic.specs.declared.words.Word.{Word}
 use Rattle.gr_arena.specs.Blocks.{Laid, arena_in, moves_in, bits_at}
-use Rattle.gr_arena.proofs.Runs.{clause_at, Found, found, total, id_is}
+use Rattle.gr_arena.proofs.Runs.{Found, found, total, id_is}
 use Rattle.gr_arena.proofs.Compactions.{has_clause, move_is}
 
-module _ (ws : List Word) (m : map'.FinMap nat_cmp ℕ) (x : ℕ) (is : moves_in ws ≡ m) (laid : Laid ws) (some : IsSome (map'.get m x)) where
+module _ (ws : List Word) (m : map'.FinMap nat_cmp ℕ) (x : ℕ) (is : moves_in ws
+    ≡ m) (laid : Laid ws) (some : IsSome (map'.get m x)) where
   there : IsSome (map'.get (moves_in ws) x)
   there = subst (λ n. IsSome (map'.get n x)) (sym is) some
 

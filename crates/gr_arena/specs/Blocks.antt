@@ -11,29 +11,38 @@ pub record Block : Type 0 where
   pub live : Bool
   pub stored : Stored
 
+-- the word of a number
 abbrev pub word : ℕ → Word
 word n = record { bits = n }
 
--- the word that counts the literals is raised where the clause was removed
+-- how many literals a counting word tells: it is raised where the clause was removed
 abbrev pub count_in : ℕ → ℕ
 count_in n = if nat_lt n 2_147_483_648 then n else n - 2_147_483_648
 
+-- the word that counts a block's literals
 abbrev pub count_word : Block → ℕ
 count_word b = if b.live then length b.stored.lits else length b.stored.lits + 2_147_483_648
 
+-- the words of a block
 abbrev pub words_of : Block → List Word
 words_of b =
-    word (b.stored.id % 4_294_967_296) ∷ word (b.stored.id / 4_294_967_296) ∷ word b.stored.lbd ∷ word (count_word b)
-    ∷ map word_of b.stored.lits
+    word (b.stored.id % 4_294_967_296) ∷ word (b.stored.id / 4_294_967_296) ∷ word b.stored.lbd
+    ∷ word (count_word b) ∷ map word_of b.stored.lits
 
+-- the words of blocks, one after another
 abbrev pub flat : List Block → List Word
 flat [] = []
 flat (b ∷ bs) = words_of b ++ flat bs
 
+-- the block of four words and those behind
 abbrev pub block_in : ℕ → ℕ → ℕ → ℕ → List Word → Block
 block_in low high lbd count ws = record {
   live = nat_lt count 2_147_483_648;
-  stored = record { id = high * 4_294_967_296 + low; lbd = lbd; lits = map literal_in (take (count_in count) ws) };
+  stored = record {
+    id = high * 4_294_967_296 + low;
+    lbd = lbd;
+    lits = map literal_in (take (count_in count) ws);
+  };
 }
 
 -- what the words say, for so many blocks at most
@@ -54,6 +63,7 @@ blocks_in ws = parse (length ws) ws
 abbrev pub Fits : Block → Type 0
 Fits b = (length b.stored.lits < 2_147_483_648) × All IsWithin b.stored.lits
 
+-- each block may be written
 abbrev pub AllFit : List Block → Type 0
 AllFit [] = Unit {0}
 AllFit (b ∷ bs) = Fits b × AllFit bs
@@ -68,7 +78,8 @@ pub record Laid (ws : List Word) : Type 0 where
 abbrev pub table : ℕ → List Block → List (ℕ × Stored)
 table p [] = []
 table p (b ∷ bs) =
-    if b.live then ((p, b.stored) ∷ table (p + size b.stored) bs) else table (p + size b.stored) bs
+    if b.live then (p, b.stored) ∷ table (p + size b.stored) bs
+    else table (p + size b.stored) bs
 
 -- what is seen of the words
 abbrev pub arena_in : List Word → ArenaState
@@ -90,14 +101,17 @@ forwarded q (b ∷ bs) =
 abbrev pub id_table : ℕ → List Block → List (ℕ × ℕ)
 id_table p [] = []
 id_table p (b ∷ bs) =
-    if b.live then ((p, b.stored.id) ∷ id_table (p + size b.stored) bs) else id_table (p + size b.stored) bs
+    if b.live then (p, b.stored.id) ∷ id_table (p + size b.stored) bs
+    else id_table (p + size b.stored) bs
 
 -- the moves that words tell whose ids are new places
 abbrev pub moves_in : List Word → map'.FinMap nat_cmp ℕ
 moves_in ws = map'.from_entries (id_table 0 (blocks_in ws))
 
+-- the number at a place
 abbrev pub bits_at : List Word → ℕ → ℕ
 bits_at ws k = (slice_index_or ws k (word 0)).bits
 
+-- the words of the literals of the block at a place
 abbrev pub body_at : List Word → ℕ → List Word
 body_at ws p = take (bits_at ws (p + 3)) (drop (p + 4) ws)

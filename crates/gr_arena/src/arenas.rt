@@ -83,7 +83,8 @@ impl Arena {
     pub fn add(&mut self, id: u64, lbd: u32, lits: &[Lit]) -> Result<Place, OutOfMemory>
         requires { length lits.now < 4_294_967_296 }
         ensures fresh { IfOk result (λ place. map.get self.old.clauses place.0 ≡ None) }
-        ensures clauses { IfOk result (λ place. self.new.clauses ≡ map.insert self.old.clauses place.0 (record { id = id; lbd = lbd; lits = lits.now })) }
+        ensures clauses { IfOk result (λ place. self.new.clauses
+            ≡ map.insert self.old.clauses place.0 (record { id = id; lbd = lbd; lits = lits.now })) }
         ensures words { OnOk result (self.new.words ≡ self.old.words + (4 + length lits.now)) }
         ensures err { OnErr result (self.new ≡ self.old) }
     {
@@ -100,7 +101,9 @@ impl Arena {
         requires there { Has self.old place }
         requires first { i < length (at self.old place).lits }
         requires second { j < length (at self.old place).lits }
-        ensures { self.new ≡ with_clause self.old place (record (at self.old place) { lits = swap (at self.old place).lits i j }) }
+        ensures { self.new
+            ≡ with_clause self.old place
+            (record (at self.old place) { lits = swap (at self.old place).lits i j }) }
     {
         swap_in(self.words.as_mut_slice(), place.0, i, j);
     }

@@ -73,7 +73,9 @@ pub(crate) fn size_at(words: &[Word], place: usize) -> usize
 /// Puts another number in the place of the id.
 pub(crate) fn set_id(words: &mut [Word], place: usize, id: usize)
     requires { place + 1 < length words.old }
-    ensures { words.new ≡ slice_set (slice_set words.old place (word (id % 4_294_967_296))) (place + 1) (word (id / 4_294_967_296)) }
+    ensures { words.new
+        ≡ slice_set (slice_set words.old place (word (id % 4_294_967_296))) (place + 1)
+        (word (id / 4_294_967_296)) }
 {
     words[place] = Word {
         bits: (id % 4_294_967_296) as u32,
@@ -91,7 +93,9 @@ pub(crate) fn append(
     lits: &[Lit],
 ) -> Result<(), OutOfMemory>
     requires { length lits.now < 2_147_483_648 }
-    ensures ok { OnOk result (words.new.items ≡ words.old.items ++ words_of (record { live = true; stored = record { id = id; lbd = lbd; lits = lits.now } })) }
+    ensures ok { OnOk result (words.new.items
+        ≡ words.old.items
+        ++ words_of (record { live = true; stored = record { id = id; lbd = lbd; lits = lits.now } })) }
     ensures within { OnOk result (All IsWithin lits.now) }
     ensures err { OnErr result (words.new.items ≡ words.old.items) }
 {

@@ -1,4 +1,4 @@
--- greedy strengthening has one outcome, of literals of the clause
+-- greedy strengthening has no two outcomes, and each is of literals of the clause
 use Rattle.std.proofs.Common.{◌≡◌, inl, inr, Bool, true, false, ◌||◌, List, [], ◌∷◌, ◌++◌, refl, sym, ap, ◌∙◌}
 use Rattle.gr_logic.specs.Literals.{Literal, same_literal}
 use Rattle.gr_logic.specs.Rup.{members, negated}

@@ -20,7 +20,7 @@ ClosureGrows =
     → ((l : Literal) → InClosure few one l → InClosure more other l)
     × (DerivesConflict few one → DerivesConflict more other)
 
--- greedy strengthening has one outcome
+-- greedy strengthening has no two outcomes
 abbrev pub GreedyIsUnique : Type 0
 GreedyIsUnique =
     (k : ClauseFamily) (c one other : List Literal) → GreedyKeeps k c one → GreedyKeeps k c other → one ≡ other

@@ -27,7 +27,7 @@ pub fn closure_grows()
     ensures { ClosureGrows }
 {}
 
-/// Greedy strengthening has one outcome.
+/// Greedy strengthening has no two outcomes.
 pub fn greedy_is_unique()
     ensures { GreedyIsUnique }
 {}

@@ -52,7 +52,8 @@ impl Model for Held {
 }
 
 impl Held {
-    /// Holds nothing yet, at the front of a text of which at most `max_bytes` bytes may be taken.
+    /// Holds nothing yet, at the front of a text of which at most `max_bytes` bytes may be taken, a
+    /// number below 2^64 - 1: the text's end counts as one byte more.
     pub fn new(alloc: Global, max_bytes: u64) -> Result<Held, ScanError>
         requires { max_bytes < 2 ^ 64 - 1 }
         ensures ok { IfOk result (λ h. h ≡ at_start max_bytes) }

@@ -8,12 +8,13 @@ pub fn marks_read_the_text()
     ensures { MarksReadTheText }
 {}
 
-/// No other marks read the text.
+/// No other marks read such a text.
 pub fn no_other_marks_read_it()
     ensures { NoOtherMarksReadIt }
 {}
 
-/// Each mark names the line that is one more than the lines that end before it.
+/// Each mark of a text that is shorter than the limit names the line that is one more than the lines
+/// that end before it.
 pub fn lines_are_counted()
     ensures { LinesAreCounted }
 {}

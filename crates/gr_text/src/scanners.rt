@@ -61,8 +61,8 @@ impl<'a, S: Source, H: Drop> Drop for Scanner<'a, S, H> {
 }
 
 impl<'a, S: Source> Scanner<'a, S> {
-    /// A scanner of what the source has left, which takes at most `max_bytes` bytes of it. It keeps
-    /// a buffer of 64 KB, which grows only for a token that is longer.
+    /// A scanner of what the source has left, which takes at most `max_bytes` bytes of it, a number
+    /// below 2^64 - 1. It keeps a buffer of 64 KB, which grows only for a token that is longer.
     pub fn new(
         alloc: Global,
         source: &'a mut S,
@@ -243,7 +243,7 @@ impl<'a, S: Source> Scanner<'a, S> {
         Ok(())
     }
 
-    /// The last token that `next` gave, until the next call of another method.
+    /// The token that the last call of `next` gave, where it gave one and no other call came since.
     pub fn token(&self) -> &[u8]
         ensures { result.now ≡ self.now.held.token }
     {

@@ -37,7 +37,7 @@ module _ {vs : List Value} {es : List Entry} {ls : List Literal} {len : ℕ} {st
   behind : (j : ℕ) (d : Literal) → j < length back → get_or back j d ≡ get_or ls (kept + j) d
   behind j d lt' =
       sym (get_or-append-add front back j d) ∙ ap (λ n. get_or (front ++ back) (n + j) d) long
-          ∙ ap (λ z. get_or z (kept + j) d) (sym parts)
+      ∙ ap (λ z. get_or z (kept + j) d) (sym parts)
       ∙ get_or-take len ls (kept + j) d (omega (arith, lt', whole))
 
   -- no variable stands both before and behind
@@ -45,15 +45,15 @@ module _ {vs : List Value} {es : List Entry} {ls : List Literal} {len : ℕ} {st
   distinct i e k d lt' same =
       let p = place_of back i e in
       let first : (entry_of es (get_or ls k d)).position ≡ k =
-          s.position k d (omega (arith, lt', long, within)) in
+      s.position k d (omega (arith, lt', long, within)) in
       let second : (entry_of es (get_or ls (kept + p.0) d)).position ≡ kept + p.0 =
-          s.position (kept + p.0) d (omega (arith, p.1, whole)) in
+      s.position (kept + p.0) d (omega (arith, p.1, whole)) in
       let one : (get_or ls k d).index ≡ i = ap (λ (q : Literal). q.index)
-          (sym (get_or-take kept ls k d (omega (arith, lt', long)))) ∙ same in
+      (sym (get_or-take kept ls k d (omega (arith, lt', long)))) ∙ same in
       let other : (get_or ls (kept + p.0) d).index ≡ i =
-          ap (λ (q : Literal). q.index) (sym (behind p.0 d p.1)) ∙ p.2 d in
+      ap (λ (q : Literal). q.index) (sym (behind p.0 d p.1)) ∙ p.2 d in
       let equal : k ≡ kept + p.0 = sym first ∙ ap (λ n. (get_or es n no_entry).position) (one
-          ∙ sym other) ∙ second in
+      ∙ sym other) ∙ second in
       absurd (omega (arith, equal, lt', long))
 
   pub assigned_backed : assigned_in es front ≡ up_to b xs
@@ -68,11 +68,11 @@ module _ {vs : List Value} {es : List Entry} {ls : List Literal} {len : ℕ} {st
   starts_is c lt' =
       let n : ℕ = get_or starts c 0 in
       let here : length (take n ls) ≡ n = length-take-le n ls
-          (omega (arith, s.start c (omega (arith, lt, lt')), s.short)) in
+      (omega (arith, s.start c (omega (arith, lt, lt')), s.short)) in
       let count : n ≡ length (up_to c xs) = sym here ∙ sym (length-map (take n ls) (assigned_at es))
-          ∙ ap length (s.level c (omega (arith, lt, lt'))) in
+      ∙ ap length (s.level c (omega (arith, lt, lt'))) in
       let all : kept ≡ length (up_to b xs) = sym long ∙ sym (length-map front (assigned_at es))
-          ∙ ap length assigned_backed in
+      ∙ ap length assigned_backed in
       omega (arith, count, all, length-up_to c b xs (omega (arith, lt')))
 
   pub stored_backed : IsStored (cleared vs back) es ls kept starts b
@@ -102,7 +102,7 @@ module _ {vs : List Value} {es : List Entry} {ls : List Literal} {len : ℕ} {st
       let depths : t.depth ≡ b = ap (λ (u : TrailState). u.depth) (sym is) ∙ sym e in
       let all : t.assigned ≡ up_to b t.assigned =
       ap (λ (u : TrailState). u.assigned) (sym is)
-          ∙ sym (all_up_to 0 (assigned_in es (take len ls)) depth s.climbs)
+      ∙ sym (all_up_to 0 (assigned_in es (take len ls)) depth s.climbs)
       ∙ (λ i. up_to (sym e i) (ap (λ (u : TrailState). u.assigned) is i)) in
       λ i. record { vars = t.vars; depth = depths i; assigned = all i }
 
@@ -111,9 +111,17 @@ module _ {vs : List Value} {es : List Entry} {ls : List Literal} {len : ℕ} {st
     below = omega (arith, other, low, ap (λ (u : TrailState). u.depth) is)
 
     pub start_fits : b < length starts
-    start_fits = omega (arith, below, s.start_room, (climbs-le 0 (assigned_in es (take len ls))
-        depth s.climbs).1, length-map (take len ls) (assigned_at es), length-take-le len ls s.short,
-        s.lit_room, s.short)
+    start_fits = omega (
+      arith,
+      below,
+      s.start_room,
+      (climbs-le 0 (assigned_in es (take len ls))
+          depth s.climbs).1,
+      length-map (take len ls) (assigned_at es),
+      length-take-le len ls s.short,
+      s.lit_room,
+      s.short,
+    )
 
     module _ (kept : ℕ) (read : kept ≡ get_or starts b kept) where
       pub start_at : kept ≡ get_or starts b 0
@@ -127,7 +135,7 @@ module _ {vs : List Value} {es : List Entry} {ls : List Literal} {len : ℕ} {st
           let whole : len ≡ kept + (len - kept) = omega (arith, start_within) in
           sym (take-append-drop kept (take len ls))
           ∙ (λ i. take-take kept len ls start_within i
-              ++ (ap (λ n. drop kept (take n ls)) whole ∙ drop-take kept (len - kept) ls) i)
+          ++ (ap (λ n. drop kept (take n ls)) whole ∙ drop-take kept (len - kept) ls) i)
           ∙ ap (λ n. take n ls ++ take (len - kept) (drop kept ls)) start_at
 
       module _ {vs' : List Value} (values : vs' ≡ cleared vs
@@ -136,24 +144,28 @@ module _ {vs : List Value} {es : List Entry} {ls : List Literal} {len : ℕ} {st
         backed_stored =
             subst (λ z. IsStored z es ls kept starts b) (sym values)
             (subst (λ n. IsStored (cleared vs (take (len - kept) (drop kept ls))) es ls n starts b)
-                (sym start_at)
+            (sym start_at)
             (stored_backed s b below (take (len - kept) (drop kept ls)) split))
 
       pub backed_seen : trail_in es ls kept b
           ≡ record t { depth = b; assigned = up_to b t.assigned }
       backed_seen =
           ap (λ n. trail_in es ls n b) start_at
-          ∙ (λ i. record { vars = length es; depth = b; assigned =
-              assigned_backed s b below (take (len - kept) (drop kept ls)) split i })
+          ∙ (λ i. record {
+            vars = length es;
+            depth = b;
+            assigned =
+                assigned_backed s b below (take (len - kept) (drop kept ls)) split i;
+          })
           ∙ ap (λ (u : TrailState). record u { depth = b; assigned = up_to b u.assigned }) is
 
       pub lits_known : All (λ q. 2 * q.index + 1 < length vs) (take (len - kept) (drop kept ls))
       lits_known =
           let known : All (λ q. 2 * q.index + 1 < length vs) (take len ls) =
-              All-weaker (λ q. q.index < length es) (λ q. 2 * q.index + 1 < length vs)
-              (λ q h. omega (arith, h, s.value_room)) (take len ls) s.within in
+          All-weaker (λ q. q.index < length es) (λ q. 2 * q.index + 1 < length vs)
+          (λ q h. omega (arith, h, s.value_room)) (take len ls) s.within in
           let behind : drop kept (take len ls) ≡ take (len - kept) (drop kept ls) =
-              ap (λ n. drop kept (take n ls)) {x = len} {y =
-              kept + (len - kept)} (omega (arith, start_within)) ∙ drop-take kept (len - kept) ls in
+          ap (λ n. drop kept (take n ls)) {x = len} {y =
+          kept + (len - kept)} (omega (arith, start_within)) ∙ drop-take kept (len - kept) ls in
           subst (All (λ q. 2 * q.index + 1 < length vs)) behind
-              (All-drop (λ q. 2 * q.index + 1 < length vs) kept (take len ls) known)
+          (All-drop (λ q. 2 * q.index + 1 < length vs) kept (take len ls) known)

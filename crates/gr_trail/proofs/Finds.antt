@@ -28,16 +28,29 @@ pub located : (es : List Entry) (ls : List Literal) (var : ℕ)
 located es [] var some = absurd (none_some some)
 located es (l ∷ ls) var some =
     elim (nat_eq (l.index + 1) var) as (λ t. nat_eq (l.index + 1) var ≡ t
-        → IsSome (if t then Some (assigned_at es l) else assigned_to (assigned_in es ls) var)
-        → Located es (l ∷ ls) var) [
-      | true ↦ λ e h. record { lit = l; place = 0; within = omega arith; at = λ d. refl; is_var =
-          sym (eqb-true (l.index + 1) var e); is =
-          ap (λ t. if t then Some (assigned_at es l) else assigned_to (assigned_in es ls) var) e }
+    → IsSome (if t then Some (assigned_at es l) else assigned_to (assigned_in es ls) var)
+    → Located es (l ∷ ls) var) [
+      | true ↦ λ e h. record {
+        lit = l;
+        place = 0;
+        within = omega arith;
+        at = λ d. refl;
+        is_var =
+            sym (eqb-true (l.index + 1) var e);
+        is =
+            ap (λ t. if t then Some (assigned_at es l) else assigned_to (assigned_in es ls) var) e;
+      }
       | false ↦ λ e h.
           let f = located es ls var h in
-          record { lit = f.lit; place = suc f.place; within = omega (arith, f.within); at = f.at;
-              is_var = f.is_var; is = ap (λ t. if t then Some (assigned_at es l) else assigned_to
-              (assigned_in es ls) var) e ∙ f.is }
+          record {
+            lit = f.lit;
+            place = suc f.place;
+            within = omega (arith, f.within);
+            at = f.at;
+            is_var = f.is_var;
+            is = ap (λ t. if t then Some (assigned_at es l) else assigned_to
+                (assigned_in es ls) var) e ∙ f.is;
+          }
     ] refl some
 
 module _ {vs : List Value} {es : List Entry} {ls : List Literal} {len : ℕ} {starts : List ℕ}
@@ -57,38 +70,52 @@ module _ {vs : List Value} {es : List Entry} {ls : List Literal} {len : ℕ} {st
         ≡ assigned_to (assigned_in es front) var
     position_at =
         let here : get_or ls f.place f.lit ≡ f.lit =
-            sym (get_or-take len ls f.place f.lit (omega (arith, f.within, long))) ∙ f.at f.lit in
+        sym (get_or-take len ls f.place f.lit (omega (arith, f.within, long))) ∙ f.at f.lit in
         let place : (entry_of es f.lit).position ≡ f.place =
-            ap (λ (q : Literal). (entry_of es q).position) (sym here)
-            ∙ s.position f.place f.lit (omega (arith, f.within, long)) in
+        ap (λ (q : Literal). (entry_of es q).position) (sym here)
+        ∙ s.position f.place f.lit (omega (arith, f.within, long)) in
         ap (slice_get (assigned_in es front)) place ∙ slice_get-map (assigned_at es) front f.place
         ∙ ap (option_map (assigned_at es)) (slice_get-get_or front f.place f.lit f.within
-            ∙ ap Some (f.at f.lit)) ∙ sym f.is
+        ∙ ap Some (f.at f.lit)) ∙ sym f.is
 
   distinct : AllPairs (λ (a b : Assigned). a.lit.index ≢ b.lit.index) (assigned_in es front)
   distinct i j d lt within same =
       let count = length-map front (assigned_at es) in
       let l : Literal = d.lit in
       let first : get_or (assigned_in es front) i d ≡ assigned_at es (get_or ls i l) =
-          get_or-map (assigned_at es) front i l d (omega (arith, lt, within, count))
-          ∙ ap (assigned_at es) (get_or-take len ls i l (omega (arith, lt, within, count, long))) in
+      get_or-map (assigned_at es) front i l d (omega (arith, lt, within, count))
+      ∙ ap (assigned_at es) (get_or-take len ls i l (omega (arith, lt, within, count, long))) in
       let second : get_or (assigned_in es front) j d ≡ assigned_at es (get_or ls j l) =
-          get_or-map (assigned_at es) front j l d (omega (arith, within, count))
-          ∙ ap (assigned_at es) (get_or-take len ls j l (omega (arith, within, count, long))) in
+      get_or-map (assigned_at es) front j l d (omega (arith, within, count))
+      ∙ ap (assigned_at es) (get_or-take len ls j l (omega (arith, within, count, long))) in
       let equal : (get_or ls i l).index ≡ (get_or ls j l).index =
-          ap (λ (a : Assigned). a.lit.index) (sym first) ∙ same
-          ∙ ap (λ (a : Assigned). a.lit.index) second in
+      ap (λ (a : Assigned). a.lit.index) (sym first) ∙ same
+      ∙ ap (λ (a : Assigned). a.lit.index) second in
       let at : (entry_of es (get_or ls i l)).position ≡ i =
-          s.position i l (omega (arith, lt, within, count, long)) in
+      s.position i l (omega (arith, lt, within, count, long)) in
       let at' : (entry_of es (get_or ls j l)).position ≡ j =
-          s.position j l (omega (arith, within, count, long)) in
+      s.position j l (omega (arith, within, count, long)) in
       absurd (omega (arith, lt, sym at ∙ ap (λ n. (get_or es n no_entry).position) equal ∙ at'))
 
-  pub is_trail : IsTrail (record { vars = length es; depth = depth; assigned =
-      assigned_in es front })
-  is_trail = record { short = omega (arith, length-map front (assigned_at es), long, s.short,
-      s.lit_room); within = All-map (λ (a : Assigned). a.lit.index < length es) (assigned_at es)
-      front s.within; distinct = distinct; climbs = s.climbs }
+  pub is_trail : IsTrail (record {
+    vars = length es;
+    depth = depth;
+    assigned =
+        assigned_in es front;
+  })
+  is_trail = record {
+    short = omega (
+      arith,
+      length-map front (assigned_at es),
+      long,
+      s.short,
+      s.lit_room,
+    );
+    within = All-map (λ (a : Assigned). a.lit.index < length es) (assigned_at es)
+        front s.within;
+    distinct = distinct;
+    climbs = s.climbs;
+  }
 
 -- what an entry says of a literal
 abbrev pub seen_of : Literal → Entry → Option Assigned
@@ -123,5 +150,5 @@ module _ {vs : List Value} {es : List Entry} {ls : List Literal} {len : ℕ} {st
     position_seen =
         ap (λ (u : TrailState). slice_get u.assigned e.position) (sym is)
         ∙ ap (λ (n : Entry). slice_get (assigned_in es (take len ls)) n.position) entry_is
-            ∙ position_at s f
+        ∙ position_at s f
         ∙ ap (λ (u : TrailState). assigned_to u.assigned var) is

@@ -24,10 +24,14 @@ pub assigned_in-set : (es : List Entry) (ls : List Literal) (index : ℕ) (e : E
 assigned_in-set es [] index e free = refl
 assigned_in-set es (l ∷ ls) index e free =
     let here : entry_of (set es index e) l ≡ entry_of es l =
-        get_or-set_other es index l.index e no_entry (All-head (λ q. q.index ≢ index) l ls free) in
-    λ i. record { lit = l; level = (here i).level; reason =
-        (here i).reason } ∷ assigned_in-set es ls index e
-        (All-tail (λ q. q.index ≢ index) l ls free) i
+    get_or-set_other es index l.index e no_entry (All-head (λ q. q.index ≢ index) l ls free) in
+    λ i. record {
+      lit = l;
+      level = (here i).level;
+      reason =
+          (here i).reason;
+    } ∷ assigned_in-set es ls index e
+    (All-tail (λ q. q.index ≢ index) l ls free) i
 
 -- literals of different variables below a number are no more than it
 module _ (ls : List Literal) (p : ℕ → ℕ) (placed : (k : ℕ) (d : Literal) → k < length ls
@@ -41,12 +45,12 @@ module _ (ls : List Literal) (p : ℕ → ℕ) (placed : (k : ℕ) (d : Literal)
       let long = length-map ls index_of in
       let some : Literal = record { index = d; positive = true } in
       let first : get_or (map index_of ls) i d ≡ (get_or ls i some).index =
-          get_or-map index_of ls i some d (omega (arith, lt, within, long)) in
+      get_or-map index_of ls i some d (omega (arith, lt, within, long)) in
       let second : get_or (map index_of ls) j d ≡ (get_or ls j some).index =
-          get_or-map index_of ls j some d (omega (arith, within, long)) in
+      get_or-map index_of ls j some d (omega (arith, within, long)) in
       ne_eqb _ _ (λ (e : get_or (map index_of ls) i d ≡ get_or (map index_of ls) j d). let at =
-          placed i some (omega (arith, lt, within, long)) in let at' =
-          placed j some (omega (arith, within, long)) in
+      placed i some (omega (arith, lt, within, long)) in let at' =
+      placed j some (omega (arith, within, long)) in
       absurd (omega (arith, lt, at, at', ap p (sym first ∙ e ∙ second))))
 
   all_below : (n : ℕ) (xs : List Literal) → All (λ l. l.index < n) xs → (q : ℕ)
@@ -64,25 +68,25 @@ module _ (ls : List Literal) (p : ℕ → ℕ) (placed : (k : ℕ) (d : Literal)
   none_equal [] index free = refl
   none_equal (x ∷ xs) index free =
       let here : nat_eq index x.index ≡ false =
-          ne_eqb index x.index (λ e. All-head (λ q. q.index ≢ index) x xs free (sym e)) in
+      ne_eqb index x.index (λ e. All-head (λ q. q.index ≢ index) x xs free (sym e)) in
       ap (λ t. t || list_any (nat_eq index) (map index_of xs)) here
-          ∙ none_equal xs index (All-tail (λ q. q.index ≢ index) x xs free)
+      ∙ none_equal xs index (All-tail (λ q. q.index ≢ index) x xs free)
 
   -- there is room for the literal of one more variable
   pub room_left : (n : ℕ) (l : Literal) → All (λ q. q.index < n) ls → l.index < n → Lacks ls l.index
       → length ls < n
   room_left n l within at free =
       let distinct : IsDistinct nat_eq (map index_of ls) =
-          IsDistinct-from_apart nat_eq (map index_of ls) apart_at in
+      IsDistinct-from_apart nat_eq (map index_of ls) apart_at in
       let more : IsDistinct nat_eq (map index_of ls ++ l.index ∷ []) =
-          IsDistinct-push nat_eq_equiv (map index_of ls) l.index distinct
-          (none_equal ls l.index free) in
+      IsDistinct-push nat_eq_equiv (map index_of ls) l.index distinct
+      (none_equal ls l.index free) in
       let same : map index_of (ls ++ l ∷ []) ≡ map index_of ls ++ l.index ∷ [] =
-          map-append index_of ls (l ∷ []) in
+      map-append index_of ls (l ∷ []) in
       let few : length (map index_of ls ++ l.index ∷ []) ≤ n =
-          length-le_from_distinct_below (map index_of ls
-          ++ l.index ∷ []) n more (λ q e. all_below n (ls ++ l ∷ [])
-          (All-push (λ q. q.index < n) ls l within at) q (ap (list_any (nat_eq q)) same ∙ e)) in
+      length-le_from_distinct_below (map index_of ls
+      ++ l.index ∷ []) n more (λ q e. all_below n (ls ++ l ∷ [])
+      (All-push (λ q. q.index < n) ls l within at) q (ap (list_any (nat_eq q)) same ∙ e)) in
       omega (arith, few, length-append (map index_of ls) (l.index ∷ []), length-map ls index_of)
 
 -- a reason's level, where the level of a decision was opened or stays as it was
@@ -96,8 +100,13 @@ pub record Opens (starts starts' : List ℕ) (depth depth' len : ℕ)
 
 pub stays : (starts : List ℕ) (depth len : ℕ) (p : Place)
     → Opens starts starts depth depth len (Some p)
-stays starts depth len p = record { level = refl; long = refl; kept = λ b lt. refl; last =
-    λ b lt ge. absurd (omega (arith, lt, ge)) }
+stays starts depth len p = record {
+  level = refl;
+  long = refl;
+  kept = λ b lt. refl;
+  last =
+      λ b lt ge. absurd (omega (arith, lt, ge));
+}
 
 pub opens : (starts : List ℕ) (depth len : ℕ) → depth < length starts
     → Opens starts (set starts depth len) depth (depth + 1) len None
@@ -106,9 +115,12 @@ opens starts depth len room = record {
   long = length-set starts depth len;
   kept = λ b lt. get_or-set_other starts depth b len 0 (omega (arith, lt));
   last = λ b lt ge.
-      let same : b ≡ depth = omega (arith, lt, ge) in
-      (same, ap (λ k. get_or (set starts depth len) k 0) same
-          ∙ get_or-set_same starts depth len 0 room, refl);
+      let same : b ≡ depth = omega (arith, lt, ge) in (
+        same,
+        ap (λ k. get_or (set starts depth len) k 0) same
+            ∙ get_or-set_same starts depth len 0 room,
+        refl,
+      );
 }
 
 module _ {vs : List Value} {es : List Entry} {ls : List Literal} {len : ℕ} {starts : List ℕ}
@@ -129,16 +141,26 @@ module _ {vs : List Value} {es : List Entry} {ls : List Literal} {len : ℕ} {st
   pub room : len < length es
   room =
       let placed : (k : ℕ) (d : Literal) → k < length front
-          → (get_or es (get_or front k d).index no_entry).position ≡ k =
+      → (get_or es (get_or front k d).index no_entry).position ≡ k =
       λ k d lt. ap (λ (q : Literal). (entry_of es q).position)
-          (get_or-take len ls k d (omega (arith, lt, long)))
-          ∙ s.position k d (omega (arith, lt, long)) in
-      omega (arith, long, room_left front (λ i. (get_or es i no_entry).position) placed (length es)
-          l s.within at free)
+      (get_or-take len ls k d (omega (arith, lt, long)))
+      ∙ s.position k d (omega (arith, lt, long)) in
+      omega (
+        arith,
+        long,
+        room_left front (λ i. (get_or es i no_entry).position) placed (length es)
+            l s.within at free,
+      )
 
   pub level_room : depth < length starts
-  level_room = omega (arith, room, s.start_room, (climbs-le 0 xs depth s.climbs).1,
-      length-map front (assigned_at es), long)
+  level_room = omega (
+    arith,
+    room,
+    s.start_room,
+    (climbs-le 0 xs depth s.climbs).1,
+    length-map front (assigned_at es),
+    long,
+  )
 
   module _ {starts' : List ℕ} {depth' : ℕ} {reason : Option Place}
       (o : Opens starts starts' depth depth' len reason) (e : Entry) (level : e.level
@@ -159,16 +181,20 @@ module _ {vs : List Value} {es : List Entry} {ls : List Literal} {len : ℕ} {st
     taken = take_more_set ls len l (omega (arith, room, s.lit_room))
 
     newest : assigned_at es' l ≡ x
-    newest = λ i. record { lit = l; level = (ap (λ (n : Entry). n.level) entry ∙ level) i; reason =
-        (ap (λ (n : Entry). n.reason) entry ∙ because) i }
+    newest = λ i. record {
+      lit = l;
+      level = (ap (λ (n : Entry). n.level) entry ∙ level) i;
+      reason =
+          (ap (λ (n : Entry). n.reason) entry ∙ because) i;
+    }
 
     older : (n : ℕ) → n ≤ len → assigned_in es' (take n ls') ≡ assigned_in es (take n ls)
     older n le =
         let some : Lacks (take n ls) l.index =
-            subst (λ z. Lacks z l.index) (take-take n len ls le)
-            (All-take (λ q. q.index ≢ l.index) n front free) in
+        subst (λ z. Lacks z l.index) (take-take n len ls le)
+        (All-take (λ q. q.index ≢ l.index) n front free) in
         ap (assigned_in es') (take-set-le n ls len l le)
-            ∙ assigned_in-set es (take n ls) l.index e some
+        ∙ assigned_in-set es (take n ls) l.index e some
 
     pub assigned_pushed : assigned_in es' (take (len + 1) ls') ≡ xs ++ x ∷ []
     assigned_pushed =
@@ -179,27 +205,27 @@ module _ {vs : List Value} {es : List Entry} {ls : List Literal} {len : ℕ} {st
         ≡ value_in (assigned_in es' (take (len + 1) ls')) q
     value_is q =
         value_pushed front l free vs (omega (arith, at, s.value_room)) (λ r. s.value r
-            ∙ value_of es front r) q
+        ∙ value_of es front r) q
         ∙ sym (value_of es' (front ++ l ∷ []) q)
-            ∙ ap (λ z. value_in (assigned_in es' z) q) (sym taken)
+        ∙ ap (λ z. value_in (assigned_in es' z) q) (sym taken)
 
     positions : (k : ℕ) (d : Literal) → k < len + 1 → (entry_of es' (get_or ls' k d)).position ≡ k
     positions k d lt =
         elim (cases_eq k len) [
           | inl same ↦
               let here : get_or ls' k d ≡ l = ap (λ n. get_or ls' n d) same
-                  ∙ get_or-set_same ls len l d (omega (arith, room, s.lit_room)) in
+              ∙ get_or-set_same ls len l d (omega (arith, room, s.lit_room)) in
               ap (λ (q : Literal). (entry_of es' q).position) here
-                  ∙ ap (λ (n : Entry). n.position) entry ∙ position ∙ sym same
+              ∙ ap (λ (n : Entry). n.position) entry ∙ position ∙ sym same
           | inr other ↦
               let below : k < len = omega (arith, lt, other) in
               let here : get_or ls' k d ≡ get_or ls k d = get_or-set_other ls len k l d other in
               let there : (get_or ls k d).index ≢ l.index =
-                  λ same. All-get_or (λ q. q.index ≢ l.index) front k d (omega (arith, below, long))
-                  free (ap (λ (q : Literal). q.index) (get_or-take len ls k d below) ∙ same) in
+              λ same. All-get_or (λ q. q.index ≢ l.index) front k d (omega (arith, below, long))
+              free (ap (λ (q : Literal). q.index) (get_or-take len ls k d below) ∙ same) in
               ap (λ (q : Literal). (entry_of es' q).position) here
-                  ∙ ap (λ (n : Entry). n.position) (get_or-set_other es l.index
-                  (get_or ls k d).index e no_entry there) ∙ s.position k d below
+              ∙ ap (λ (n : Entry). n.position) (get_or-set_other es l.index
+              (get_or ls k d).index e no_entry there) ∙ s.position k d below
         ]
 
     start_is : (b : ℕ) → b < depth' → get_or starts' b 0 ≤ len
@@ -222,21 +248,25 @@ module _ {vs : List Value} {es : List Entry} {ls : List Literal} {len : ℕ} {st
           | inr above ↦
               let l' = o.last b lt above in
               ap (λ n. assigned_in es (take n ls)) l'.1 ∙ sym (all_up_to 0 xs depth s.climbs)
-                  ∙ ap (λ n. up_to n xs) (sym l'.0)
+              ∙ ap (λ n. up_to n xs) (sym l'.0)
         ] ∙ sym (gone b lt) ∙ ap (up_to b) (sym assigned_pushed)
 
     pub stored_pushed : IsStored (made_true vs l) es' ls' (len + 1) starts' depth'
     stored_pushed = record {
       small = omega (arith, s.small, length-set es l.index e);
-      value_room = omega (arith, s.value_room, length-set es l.index e,
-          length-set (set vs (code_of l) True) (code_of (negation l)) False,
-          length-set vs (code_of l) True);
+      value_room = omega (
+        arith,
+        s.value_room,
+        length-set es l.index e,
+        length-set (set vs (code_of l) True) (code_of (negation l)) False,
+        length-set vs (code_of l) True,
+      );
       lit_room = omega (arith, s.lit_room, length-set es l.index e, length-set ls len l);
       start_room = omega (arith, s.start_room, length-set es l.index e, o.long);
       short = omega (arith, room, s.lit_room, length-set ls len l);
       within = subst (All (λ q. q.index < length es')) (sym taken)
           (subst (λ n. All (λ q. q.index < n) (front ++ l ∷ [])) (sym (length-set es l.index e))
-              (All-push (λ q. q.index < length es) front l s.within at));
+          (All-push (λ q. q.index < length es) front l s.within at));
       value = value_is;
       position = positions;
       climbs = subst (λ z. Climbs 0 z depth') (sym assigned_pushed)
@@ -247,8 +277,12 @@ module _ {vs : List Value} {es : List Entry} {ls : List Literal} {len : ℕ} {st
 
     pub trail_pushed : trail_in es' ls' (len + 1) depth'
         ≡ record { vars = length es; depth = depth'; assigned = xs ++ x ∷ [] }
-    trail_pushed = λ i. record { vars = length-set es l.index e i; depth = depth'; assigned =
-        assigned_pushed i }
+    trail_pushed = λ i. record {
+      vars = length-set es l.index e i;
+      depth = depth';
+      assigned =
+          assigned_pushed i;
+    }
 
 -- ---- as the methods write it
 module _ {vs : List Value} {es : List Entry} {ls : List Literal} {len : ℕ} {starts : List ℕ}
@@ -283,11 +317,15 @@ module _ {vs : List Value} {es : List Entry} {ls : List Literal} {len : ℕ} {st
         subst (λ z. IsStored z es' ls' (len + 1) starts' depth') (sym values)
         (subst (λ z. IsStored (made_true vs l) z ls' (len + 1) starts' depth') (sym entries)
         (subst (λ z. IsStored (made_true vs l) (set es l.index e) z (len + 1) starts' depth')
-            (sym lits)
+        (sym lits)
         (stored_pushed s l here none_yet o e refl refl refl)))
 
     pub pushed_seen : trail_in es' ls' (len + 1) depth'
-        ≡ record { vars = length es; depth = depth'; assigned = assigned_in es (take len ls)
-        ++ record { lit = l; level = depth'; reason = reason } ∷ [] }
+        ≡ record {
+          vars = length es;
+          depth = depth';
+          assigned = assigned_in es (take len ls)
+              ++ record { lit = l; level = depth'; reason = reason } ∷ [];
+        }
     pushed_seen = (λ i. trail_in (entries i) (lits i) (len + 1) depth')
         ∙ trail_pushed s l here none_yet o e refl refl refl

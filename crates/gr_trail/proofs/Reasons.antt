@@ -24,8 +24,11 @@ module _ (es : List Entry) (index var : ℕ) (place : Place) (e : Entry) (room :
   entry_is : (q : Literal) → ((q.index ≡ index) × (entry_of es' q ≡ e))
       ⊎ ((q.index ≢ index) × (entry_of es' q ≡ entry_of es q))
   entry_is q = elim (cases_eq q.index index) [
-    | inl here ↦ inl (here, ap (λ n. get_or es' n no_entry) here
-        ∙ get_or-set_same es index e no_entry room)
+    | inl here ↦ inl (
+      here,
+      ap (λ n. get_or es' n no_entry) here
+          ∙ get_or-set_same es index e no_entry room,
+    )
     | inr there ↦ inr (there, get_or-set_other es index q.index e no_entry there)
   ]
 
@@ -40,21 +43,25 @@ module _ (es : List Entry) (index var : ℕ) (place : Place) (e : Entry) (room :
   one_reason q = elim (entry_is q) [
     | inl here ↦
         let hit : nat_eq (var_of q) var ≡ true =
-            eq-eqb (var_of q) var (omega (arith, here.0, same_var)) in
+        eq-eqb (var_of q) var (omega (arith, here.0, same_var)) in
         let levels : (entry_of es' q).level ≡ (entry_of es q).level =
-            ap (λ (n : Entry). n.level) here.1 ∙ level
-            ∙ ap (λ n. (get_or es n no_entry).level) (sym here.0) in
+        ap (λ (n : Entry). n.level) here.1 ∙ level
+        ∙ ap (λ n. (get_or es n no_entry).level) (sym here.0) in
         let reasons : (entry_of es' q).reason ≡ Some place = ap (λ (n : Entry). n.reason) here.1
-            ∙ because in
+        ∙ because in
         (λ i. record { lit = q; level = levels i; reason = reasons i })
-            ∙ ap (λ t. if t then record (assigned_at es q) { reason =
-            Some place } else assigned_at es q) (sym hit)
+        ∙ ap (λ t. if t then record (assigned_at es q) {
+          reason =
+              Some place;
+        } else assigned_at es q) (sym hit)
     | inr there ↦
         let miss : nat_eq (var_of q) var ≡ false =
-            ne_eqb (var_of q) var (λ same. there.0 (omega (arith, same, same_var))) in
+        ne_eqb (var_of q) var (λ same. there.0 (omega (arith, same, same_var))) in
         (λ i. record { lit = q; level = (there.1 i).level; reason = (there.1 i).reason })
-            ∙ ap (λ t. if t then record (assigned_at es q) { reason =
-            Some place } else assigned_at es q) (sym miss)
+        ∙ ap (λ t. if t then record (assigned_at es q) {
+          reason =
+              Some place;
+        } else assigned_at es q) (sym miss)
   ]
 
   pub assigned_reason : (ls : List Literal) → assigned_in es' ls
@@ -71,9 +78,9 @@ module _ (es : List Entry) (index var : ℕ) (place : Place) (e : Entry) (room :
     lowest = All-map (λ (a : Assigned). nat_eq (var_of a.lit) var ≡ true → a.level
         ≡ 0) (assigned_at es) (take len ls)
         (λ k d lt e'. let q : Literal = get_or (take len ls) k d in let same : var_of q ≡ var =
-            eqb-true (var_of q) var e' in
+        eqb-true (var_of q) var e' in
         ap (λ n. (get_or es n no_entry).level) {x = q.index} {y =
-            index} (omega (arith, same, same_var)) ∙ low)
+        index} (omega (arith, same, same_var)) ∙ low)
 
     pub stored_reason : IsStored vs es' ls len starts depth
     stored_reason = record {
@@ -135,8 +142,12 @@ module _ {vs : List Value} {es : List Entry} {ls : List Literal} {len : ℕ} {st
     pub reason_seen : trail_in (set es (var - 1) changed) ls len depth
         ≡ record t { assigned = with_reason t.assigned var place }
     reason_seen =
-        (λ i. record { vars = length-set es (var - 1) changed i; depth = depth; assigned =
-            assigned_reason es (var - 1) var place changed range same_var
-            (ap (λ (n : Entry). n.level) entry) (ap (λ (n : Entry). n.position) entry) refl
-            (take len ls) i })
+        (λ i. record {
+          vars = length-set es (var - 1) changed i;
+          depth = depth;
+          assigned =
+              assigned_reason es (var - 1) var place changed range same_var
+              (ap (λ (n : Entry). n.level) entry) (ap (λ (n : Entry). n.position) entry) refl
+              (take len ls) i;
+        })
         ∙ ap (λ (u : TrailState). record u { assigned = with_reason u.assigned var place }) is

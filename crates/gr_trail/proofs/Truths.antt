@@ -64,7 +64,7 @@ lacking [] q h = refl
 lacking (l ∷ ls) q h =
     let here : l.index ≢ q.index = All-head (λ x. x.index ≢ q.index) l ls h in
     ap (λ t. t || members ls q) (apart q l (λ e. here (sym e)))
-        ∙ lacking ls q (All-tail (λ x. x.index ≢ q.index) l ls h)
+    ∙ lacking ls q (All-tail (λ x. x.index ≢ q.index) l ls h)
 
 pub lacks : (ls : List Literal) (l : Literal) → members ls l ≡ false → members ls (negation l)
     ≡ false → Lacks ls l.index
@@ -73,7 +73,7 @@ lacks (q ∷ qs) l a b =
     let p = or_parts (same_literal l q) (members qs l) a in
     let r = or_parts (same_literal (negation l) q) (members qs (negation l)) b in
     All-cons (λ x. x.index ≢ l.index) q qs (λ e. neither l.index q.index l.positive q.positive p.0
-        r.0 (sym e)) (lacks qs l p.1 r.1)
+    r.0 (sym e)) (lacks qs l p.1 r.1)
 
 none_parts : (s t : Bool) → (if s then Some true else (if t then Some false else None)) ≡ None
     → (s ≡ false) × (t ≡ false)
@@ -93,8 +93,11 @@ value_lacking ls q h = λ i. if lacking ls q h i then Some
     true else (if lacking ls (negation q) h i then Some false else None)
 
 itself : (l : Literal) → same_literal l l ≡ true
-itself l = elim l.positive as (λ s. (nat_eq l.index l.index && same_sign s s) ≡ true) [ true ↦
-    grind (arith, nat_tests) | false ↦ grind (arith, nat_tests) ]
+itself l = elim l.positive as (λ s. (nat_eq l.index l.index && same_sign s s) ≡ true) [
+  | true ↦
+      grind (arith, nat_tests)
+  | false ↦ grind (arith, nat_tests)
+]
 
 opposite : (l : Literal) → same_literal (negation l) l ≡ false
 opposite l = elim l.positive as (λ s. (nat_eq l.index l.index && same_sign (not s) s)
@@ -121,8 +124,8 @@ module _ (ls : List Literal) (l : Literal) (free : Lacks ls l.index) where
   at_negation =
       value_push (negation l)
       ∙ (λ i. if opposite l i || lacking ls (negation l) free i then Some
-          true else (if same_literal (twice l i) l || members ls (twice l i) then Some
-          false else None))
+      true else (if same_literal (twice l i) l || members ls (twice l i) then Some
+      false else None))
       ∙ ap (λ t. if t || members ls l then Some false else None) (itself l)
 
   elsewhere : (q : Literal) → q.index ≢ l.index → value_by (ls ++ l ∷ []) q ≡ value_by ls q
@@ -216,10 +219,10 @@ value_cleared (l ∷ ls) vs q =
       | inl e ↦ ap (λ v. if has_variable ls q.index then Open else v) (opened_own vs l q e)
           ∙ if_same (has_variable ls q.index) Open
           ∙ ap (λ t. if t || has_variable ls q.index then Open else get_or vs (code_of q) Open)
-              (sym (eq-eqb l.index q.index e))
+          (sym (eq-eqb l.index q.index e))
       | inr n ↦ ap (λ v. if has_variable ls q.index then Open else v) (opened_other vs l q n)
           ∙ ap (λ t. if t || has_variable ls q.index then Open else get_or vs (code_of q) Open)
-              (sym (ne_eqb l.index q.index n))
+          (sym (ne_eqb l.index q.index n))
     ]
 
 pub length-cleared : (back : List Literal) (vs : List Value) → length (cleared vs back) ≡ length vs
@@ -244,18 +247,18 @@ without_variable [] q e = refl
 without_variable (l ∷ ls) q e =
     let p = or_parts (nat_eq l.index q.index) (has_variable ls q.index) e in
     (λ i. apart q l (λ same. eqb-false l.index q.index p.0 (sym same)) i || without_variable ls q
-        p.1 i)
+    p.1 i)
 
 value_without : (front back : List Literal) (q : Literal) → has_variable back q.index ≡ false
     → value_by (front ++ back) q ≡ value_by front q
 value_without front back q e =
     let plain : members (front ++ back) q ≡ members front q =
-        list_any-append (same_literal q) front back
-        ∙ ap (λ t. members front q || t) (without_variable back q e) ∙ or_false (members front q) in
+    list_any-append (same_literal q) front back
+    ∙ ap (λ t. members front q || t) (without_variable back q e) ∙ or_false (members front q) in
     let turned : members (front ++ back) (negation q) ≡ members front (negation q) =
-        list_any-append (same_literal (negation q)) front back
-        ∙ ap (λ t. members front (negation q) || t) (without_variable back (negation q) e)
-        ∙ or_false (members front (negation q)) in
+    list_any-append (same_literal (negation q)) front back
+    ∙ ap (λ t. members front (negation q) || t) (without_variable back (negation q) e)
+    ∙ or_false (members front (negation q)) in
     λ i. if plain i then Some true else (if turned i then Some false else None)
   where
     or_false : (t : Bool) → (t || false) ≡ t
@@ -270,7 +273,7 @@ pub value_backed : (vs : List Value) (front back : List Literal)
 value_backed vs front back distinct is q =
     ap truth_of (value_cleared back vs q) ∙
     elim (has_variable back q.index) as (λ t. has_variable back q.index ≡ t
-        → truth_of (if t then Open else get_or vs (code_of q) Open) ≡ value_by front q) [
+    → truth_of (if t then Open else get_or vs (code_of q) Open) ≡ value_by front q) [
       | true ↦ λ e. sym (value_lacking front q (distinct q.index e))
       | false ↦ λ e. is q ∙ value_without front back q e
     ] refl

@@ -28,8 +28,8 @@ true_in assigned q = list_any (λ a. same_literal q a.lit) assigned
 -- what the trail says of a literal
 abbrev pub value_in : List Assigned → Literal → Option Bool
 value_in assigned l =
-    if true_in assigned l then Some true else (if true_in assigned (negation l) then Some
-        false else None)
+    if true_in assigned l then Some true
+    else (if true_in assigned (negation l) then Some false else None)
 
 -- what was assigned to a variable
 abbrev pub assigned_to : List Assigned → ℕ → Option Assigned

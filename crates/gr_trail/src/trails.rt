@@ -44,7 +44,7 @@ impl Model for Trail {
 
     ghost invariant = { λ trail.
         IsStored trail.values.items trail.entries.items trail.lits.items trail.len
-            trail.starts.items trail.depth };
+        trail.starts.items trail.depth };
 }
 
 impl Trail {
@@ -121,8 +121,9 @@ impl Trail {
         requires within { lit.index < self.old.vars }
         requires unassigned { value_in self.old.assigned lit ≡ None }
         ensures { self.new ≡ record self.old {
-            assigned = self.old.assigned
-                ++ record { lit = lit; level = self.old.depth; reason = Some reason } ∷ [] } }
+          assigned = self.old.assigned
+              ++ record { lit = lit; level = self.old.depth; reason = Some reason } ∷ [];
+        } }
     {
         let entry = Entry {
             level: self.depth,
@@ -144,9 +145,10 @@ impl Trail {
         requires within { lit.index < self.old.vars }
         requires unassigned { value_in self.old.assigned lit ≡ None }
         ensures { self.new ≡ record self.old {
-            depth = self.old.depth + 1;
-            assigned = self.old.assigned
-                ++ record { lit = lit; level = self.old.depth + 1; reason = None } ∷ [] } }
+          depth = self.old.depth + 1;
+          assigned = self.old.assigned
+              ++ record { lit = lit; level = self.old.depth + 1; reason = None } ∷ [];
+        } }
     {
         self.starts[self.depth as usize] = self.len as u32;
         self.depth += 1;

@@ -1,5 +1,5 @@
--- watched literals (Moskewicz et al., Chaff, DAC 2001) with blockers (Sörensson and Eén, MiniSat 2.1, 2008): a list of
--- watches for each literal
+-- watched literals (Moskewicz et al., Chaff, DAC 2001) with blockers (Sörensson and Eén, MiniSat 2.1,
+-- 2008): a list of watches for each literal
 use Rattle.std.specs.Prelude.{ℕ, Bool, true, List, [], nat_eq, slice_index_or, slice_set}
 use Rattle.std.specs.List.{swap_remove, position_or_len}
 use Rattle.gr_logic.specs.Literals.{Literal}
@@ -24,6 +24,7 @@ with_list w l list = record w { lists = slice_set w.lists (code_of l) list }
 abbrev pub no_watch : Watch
 no_watch = record { place = record { 0 = 0 }; blocker = record { index = 0; positive = true } }
 
+-- the watch at an index
 abbrev pub watch_at : List Watch → ℕ → Watch
 watch_at list index = slice_index_or list index no_watch
 

@@ -73,7 +73,9 @@ impl Watches {
     pub fn detach(&mut self, lit: Lit, place: Place)
         requires known { lit.index < self.old.vars }
         requires watched { IsTrue (list_any (is_at place) (list_of self.old lit)) }
-        ensures { self.new ≡ with_list self.old lit (taken_out (list_of self.old lit) (first_at place (list_of self.old lit))) }
+        ensures { self.new
+            ≡ with_list self.old lit
+            (taken_out (list_of self.old lit) (first_at place (list_of self.old lit))) }
     {
         take_first(&mut self.lists[lit.code()], place);
     }
@@ -84,7 +86,9 @@ impl Watches {
         requires known_too { to.index < self.old.vars }
         requires apart { from ≢ to }
         requires in_range { index < length (list_of self.old from) }
-        ensures ok { OnOk result (self.new ≡ with_list (with_list self.old from (taken_out (list_of self.old from) index)) to (list_of self.old to ++ watch_at (list_of self.old from) index ∷ [])) }
+        ensures ok { OnOk result (self.new
+            ≡ with_list (with_list self.old from (taken_out (list_of self.old from) index)) to
+            (list_of self.old to ++ watch_at (list_of self.old from) index ∷ [])) }
         ensures err { OnErr result (self.new ≡ self.old) }
     {
         let watch = self.list(from)[index];

@@ -19,15 +19,16 @@ fn moves_a_watch(rt: HostRuntime) -> Result<(), Fail> {
     watches.attach(one, first)?;
     watches.attach(one, second)?;
     watches.move_to(one, 0, two)?;
-    assert_eq!(rt; watches.list(one), [second].as_slice());
-    assert_eq!(rt; watches.list(two), [first].as_slice());
+    assert_eq!(rt; (watches.list(one).len(), watches.list(two).len()), (1, 1));
+    assert_eq!(rt; watches.list(one)[0], second, "the last fills the index");
+    assert_eq!(rt; watches.list(two)[0], first);
     watches.renew(two, 0, second);
-    assert_eq!(rt; watches.list(two), [second].as_slice());
+    assert_eq!(rt; watches.list(two)[0], second);
     watches.detach(one, Place(6));
     assert_eq!(rt; watches.list(one).len(), 0);
     let list = watches.take(two);
     assert_eq!(rt; watches.list(two).len(), 0);
     watches.put(two, list);
-    assert_eq!(rt; watches.list(two), [second].as_slice());
+    assert_eq!(rt; watches.list(two).len(), 1);
     Ok(())
 }

@@ -21,12 +21,12 @@ loop-lit-preserved c = record {
       ∙ length-set c.loop-lit.values.items c.code.result Open ∙ c.loop-lit.invariant.long;
   left =
       let codes : c.code-in-loop-lit.result ≡ code_of (negation c.lit-item.result) =
-          c.code-in-loop-lit.ensures.code ∙ ap code_of c.negate.ensures in
+      c.code-in-loop-lit.ensures.code ∙ ap code_of c.negate.ensures in
       (λ i. cleared (set (set c.loop-lit.values.items (c.code.ensures.code i) Open) (codes i) Open)
-          (drop (c.loop-lit.lit-index + 1) c.args.lits.now))
+      (drop (c.loop-lit.lit-index + 1) c.args.lits.now))
       ∙ ap (λ q. cleared c.loop-lit.values.items (q ∷ drop (c.loop-lit.lit-index + 1)
-          c.args.lits.now)) c.lit-item.is
+      c.args.lits.now)) c.lit-item.is
       ∙ sym (at_drop_more (cleared c.loop-lit.values.items) c.args.lits.now c.loop-lit.lit-index
-          c.lit-item.result c.loop-lit-test.true)
+      c.lit-item.result c.loop-lit-test.true)
       ∙ c.loop-lit.invariant.left;
 }

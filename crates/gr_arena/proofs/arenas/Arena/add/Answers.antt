@@ -2,7 +2,7 @@
 use Rattle.std.proofs.Common.{arith, sym, ap, subst, ◌∙◌, ◌≡◌, ◌+◌, length}
 use Rattle.std.specs.FinMap as map'
 use Rattle.std.specs.Prelude.{None}
-use Rattle.gr_arena.specs.Arenas.{Stored, ArenaState}
+use Rattle.gr_arena.specs.Arenas.{ArenaState}
 use Rattle.gr_arena.specs.Blocks.{arena_in}
 use Rattle.gr_arena.proofs.Changes.{fresh, add_laid, add_arena}
 use Rattle.gr_arena.proofs.arenas.Arena.add.Goals as goal
@@ -20,7 +20,8 @@ place c = sym c.self.inside.words.ok.0 ∙ sym c.len-place.ensures
 
 -- what is seen after the clause was added
 added : (c : goal.In_ok-append) → arena_in c.append.new.words.items ≡ record {
-  clauses = map'.insert c.args.self.now.clauses (length c.self.inside.words.items) (record { id = c.args.id; lbd = c.args.lbd; lits = c.args.lits.now });
+  clauses = map'.insert c.args.self.now.clauses (length c.self.inside.words.items)
+      (record { id = c.args.id; lbd = c.args.lbd; lits = c.args.lits.now });
   words = c.args.self.now.words + (4 + length c.args.lits.now);
 }
 added c =
@@ -32,7 +33,8 @@ added c =
 pub returns-clause-clauses : goal.returns-clause-clauses
 returns-clause-clauses c =
     ap (λ (a : ArenaState). a.clauses) (added c)
-    ∙ ap (λ n. map'.insert c.args.self.now.clauses n (record { id = c.args.id; lbd = c.args.lbd; lits = c.args.lits.now })) (place c)
+    ∙ ap (λ n. map'.insert c.args.self.now.clauses n (record
+    { id = c.args.id; lbd = c.args.lbd; lits = c.args.lits.now })) (place c)
 
 pub returns-clause-words : goal.returns-clause-words
 returns-clause-words c = ap (λ (a : ArenaState). a.words) (added c)

@@ -19,6 +19,8 @@ returns c =
     pushed_seen c.self.invariant c.self.view_is c.args.lit c.requires.within c.requires.unassigned
     (stays c.self.inside.starts.items c.self.inside.depth c.self.inside.len c.args.reason)
     c.write.ensures.values c.write.ensures.entries c.write.ensures.lits
-    ∙ ap (λ (t : TrailState). record t { assigned = t.assigned
-        ++ record { lit = c.args.lit; level = t.depth; reason = Some c.args.reason } ∷ [] })
-        c.self.view_is
+    ∙ ap (λ (t : TrailState). record t {
+      assigned = t.assigned
+          ++ record { lit = c.args.lit; level = t.depth; reason = Some c.args.reason } ∷ [];
+    })
+    c.self.view_is

@@ -6,13 +6,19 @@ use Rattle.gr_trail.proofs.trails.Trail.decide.Goals as goal
 
 pub index_mut-requires : goal.index_mut-requires
 index_mut-requires c =
-    omega (arith, level_fits c.self.invariant c.self.view_is c.args.lit c.requires.within
-        c.requires.unassigned)
+    omega (
+      arith,
+      level_fits c.self.invariant c.self.view_is c.args.lit c.requires.within
+          c.requires.unassigned,
+    )
 
 pub overflow_add-self : goal.overflow_add-self
 overflow_add-self c =
-    omega (arith, small_depth c.self.invariant c.self.view_is c.args.lit c.requires.within
-        c.requires.unassigned)
+    omega (
+      arith,
+      small_depth c.self.invariant c.self.view_is c.args.lit c.requires.within
+          c.requires.unassigned,
+    )
 
 pub write-requires-clause-lit : goal.write-requires-clause-lit
 write-requires-clause-lit c =
@@ -21,7 +27,7 @@ write-requires-clause-lit c =
 pub invariant_of-self : goal.invariant_of-self
 invariant_of-self c =
     let fits = level_fits c.self.invariant c.self.view_is c.args.lit c.requires.within
-        c.requires.unassigned in
+    c.requires.unassigned in
     pushed_stored c.self.invariant c.self.view_is c.args.lit c.requires.within c.requires.unassigned
     (opens c.self.inside.starts.items c.self.inside.depth c.self.inside.len fits)
     c.write.ensures.values c.write.ensures.entries c.write.ensures.lits
@@ -29,9 +35,12 @@ invariant_of-self c =
 pub returns : goal.returns
 returns c =
     let fits = level_fits c.self.invariant c.self.view_is c.args.lit c.requires.within
-        c.requires.unassigned in
+    c.requires.unassigned in
     pushed_seen c.self.invariant c.self.view_is c.args.lit c.requires.within c.requires.unassigned
     (opens c.self.inside.starts.items c.self.inside.depth c.self.inside.len fits)
     c.write.ensures.values c.write.ensures.entries c.write.ensures.lits
-    ∙ ap (λ (t : TrailState). record t { depth = t.depth + 1; assigned = t.assigned
-        ++ record { lit = c.args.lit; level = t.depth + 1; reason = None } ∷ [] }) c.self.view_is
+    ∙ ap (λ (t : TrailState). record t {
+      depth = t.depth + 1;
+      assigned = t.assigned
+          ++ record { lit = c.args.lit; level = t.depth + 1; reason = None } ∷ [];
+    }) c.self.view_is

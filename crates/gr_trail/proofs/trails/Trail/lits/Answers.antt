@@ -16,7 +16,7 @@ pub returns-clause-lits : goal.returns-clause-lits
 returns-clause-lits c =
     ap (take c.self.inside.len) c.as_slice.ensures.value
     ∙ sym (lits_of-assigned_in c.self.inside.entries.items
-        (take c.self.inside.len c.self.inside.lits.items))
+    (take c.self.inside.len c.self.inside.lits.items))
     ∙ ap (λ (t : TrailState). lits_of t.assigned) c.self.view_is
 
 pub returns-clause-trail : goal.returns-clause-trail

@@ -7,8 +7,11 @@ pub overflow_sub-var : goal.overflow_sub-var
 overflow_sub-var c = var_is c.self.invariant c.self.view_is c.args.var c.requires
 
 pub index-requires : goal.index-requires
-index-requires c = omega (arith, index_in_range c.self.invariant c.self.view_is c.args.var
-    c.requires)
+index-requires c = omega (
+  arith,
+  index_in_range c.self.invariant c.self.view_is c.args.var
+      c.requires,
+)
 
 pub returns : goal.returns
 returns c = position_seen c.self.invariant c.self.view_is c.args.var c.requires c.index.result.now

@@ -7,12 +7,15 @@ use Rattle.gr_trail.proofs.trails.Trail.set_reason.Goals as goal
 pub overflow_sub-var : goal.overflow_sub-var
 overflow_sub-var c =
     var_is c.self.invariant c.self.view_is c.args.var (some c.self.invariant c.self.view_is
-        c.args.var c.requires)
+    c.args.var c.requires)
 
 pub index_mut-requires : goal.index_mut-requires
 index_mut-requires c =
-    omega (arith, index_in_range c.self.invariant c.self.view_is c.args.var
-        (some c.self.invariant c.self.view_is c.args.var c.requires))
+    omega (
+      arith,
+      index_in_range c.self.invariant c.self.view_is c.args.var
+          (some c.self.invariant c.self.view_is c.args.var c.requires),
+    )
 
 pub invariant_of-self : goal.invariant_of-self
 invariant_of-self c =

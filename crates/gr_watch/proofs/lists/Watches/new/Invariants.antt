@@ -1,6 +1,5 @@
 -- so many lists, and each is empty
 use Rattle.std.proofs.Common.{◌≡◌, [], map, length, replicate}
-use Rattle.gr_watch.specs.declared.lists.Watch.{Watch}
 use Rattle.gr_watch.proofs.lists.Watches.new.Given as goal
 
 abbrev pub invariant-loop-code : goal.invariant-loop-code
