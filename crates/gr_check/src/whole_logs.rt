@@ -12,7 +12,7 @@ use std::alloc::Global;
 /// A refused line of a log, and why it is refused.
 #[derive(Clone, Copy, Debug, PartialEq, Eq)]
 pub struct RefusedLine {
-    /// Lines are counted from 1. It is 0 where memory was wanting for the formula.
+    /// Lines are counted from 1. Where memory was wanting it says nothing that is promised.
     pub line: u64,
     pub why: Refused,
 }

@@ -1,5 +1,5 @@
 // The reader of logs.
-ghost use Rattle.std.specs.Prelude.{◌≡◌, ◌≤◌, ◌<◌, ◌^◌, ◌-◌, ℕ, true, false, List, Ok, None, IfOk, IfErr};
+ghost use Rattle.std.specs.Prelude.{◌≡◌, ◌≤◌, ◌<◌, ◌^◌, ◌-◌, ℕ, true, false, List, None, IfOk, IfErr};
 ghost use Rattle.std.specs.Option.{option_map};
 ghost use Rattle.gr_io.specs.Pieces.{Rose};
 ghost use Rattle.gr_text.specs.Places.{Takes, known, limit_of};
@@ -91,7 +91,6 @@ impl<'a, S: Source> LineReader<'a, S> {
         ensures takes { Takes self.old.scanner.held (S.left self.old.scanner.source.now)
             self.new.scanner.held (S.left self.new.scanner.source.now) }
         ensures ended { IfOk result (λ found. found ≡ None → self.new.ended ≡ true) }
-        ensures again { self.old.ended ≡ true → (result ≡ Ok None) × (self.new ≡ self.old) }
         ensures keeps { KeepsLimit self.old.scanner.held self.new.scanner.held }
         ensures fault { IfErr result (λ e. e ≡ LineError.ReadFault →
             Rose (S.faults self.old.scanner.source.now) (S.faults self.new.scanner.source.now)) }
@@ -102,7 +101,7 @@ impl<'a, S: Source> LineReader<'a, S> {
 }
 
 /// The next line that a scanner comes to, or `None` at the end of the text: `ended` tells that it was
-/// reached, and is false at first. Behind `None` each call answers it again.
+/// reached, and is false at first. Behind `None` it is true, and no line comes any more.
 pub fn next_line<S: Source>(
     alloc: Global,
     scanner: &mut Scanner<'_, S>,
@@ -116,7 +115,6 @@ pub fn next_line<S: Source>(
     ensures takes { Takes scanner.old.held (S.left scanner.old.source.now)
         scanner.new.held (S.left scanner.new.source.now) }
     ensures ended { IfOk result (λ found. found ≡ None → ended.new ≡ true) }
-    ensures again { ended.old ≡ true → (result ≡ Ok None) × (scanner.new ≡ scanner.old) }
     ensures keeps { KeepsLimit scanner.old.held scanner.new.held }
     ensures fault { IfErr result (λ e. e ≡ LineError.ReadFault →
         Rose (S.faults scanner.old.source.now) (S.faults scanner.new.source.now)) }
