@@ -134,12 +134,13 @@ def main():
     parser.add_argument("--huge-ids", action="store_true", help="ids of the lemmas are spread up to 2^62")
     parser.add_argument("--seed", type=int, default=1)
     options = parser.parse_args()
-    with open(options.cnf, "w") as cnf, open(options.log, "w", buffering=1 << 20) as log:
+    with open(options.log, "w", buffering=1 << 20) as log:
         made = Log(options, log)
-        cnf.write(f"p cnf {made.vars} {options.clauses + 4}\n1 2 0\n1 -2 0\n-1 2 0\n-1 -2 0\n")
-        for i in range(options.clauses):
-            group = i * options.groups // options.clauses if options.kind == "near" else i % options.groups
-            cnf.write(" ".join(map(str, made.base_clause(group, i + 5))) + " 0\n")
+        with open(options.cnf, "w") as cnf:
+            cnf.write(f"p cnf {made.vars} {options.clauses + 4}\n1 2 0\n1 -2 0\n-1 2 0\n-1 -2 0\n")
+            for i in range(options.clauses):
+                group = i * options.groups // options.clauses if options.kind == "near" else i % options.groups
+                cnf.write(" ".join(map(str, made.base_clause(group, i + 5))) + " 0\n")
         id = options.clauses + 4
         step = (1 << 62) // 10**7 if options.huge_ids else 1
         while made.written < options.megabytes * 1e6 and made.lines < options.lines:

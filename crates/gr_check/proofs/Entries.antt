@@ -1,5 +1,5 @@
 -- look-ups among the entries of runs
-use Rattle.std.proofs.Common.{◌≡◌, ◌≢◌, ℕ, zero, suc, ◌+◌, ◌-◌, ◌<◌, ◌≤◌, Bool, true, false, List, [], ◌∷◌, ◌++◌, take, length, Option, Some, None, cond, nat_eq, get_or, refl, sym, ap, ◌∙◌, arith, get_or-set_other, get_or-set_same}
+use Rattle.std.proofs.Common.{◌≡◌, ◌≢◌, ℕ, zero, suc, ◌+◌, ◌<◌, ◌≤◌, Bool, true, false, List, [], ◌∷◌, ◌++◌, take, length, Option, Some, None, cond, nat_eq, get_or, refl, sym, ap, ◌∙◌, arith, get_or-set_other, get_or-set_same}
 use Rattle.std.specs.Map.{lookup}
 use Rattle.std.proofs.Math.ListN.{set, replicate}
 use Rattle.std.proofs.lemmas.Bool.Decides.{nat_tests}
@@ -56,6 +56,13 @@ pub in_far : (slots : List (Option Run)) (far : List (ℕ × Run)) (q : ℕ) (fo
     → lookup (nat_eq q) far ≡ lookup (nat_eq q) (near_entries 0 slots ++ far)
 in_far slots far q found is here =
     ap (λ x. or_else x (lookup (nat_eq q) far)) (sym is ∙ here) ∙ sym (lookup-entries slots far q)
+
+-- a run that only the map has
+pub only_far : (slots : List (Option Run)) (far : List (ℕ × Run)) (q : ℕ) (run : Run)
+    → get_or slots q None ≡ None → lookup (nat_eq q) far ≡ Some run
+    → lookup (nat_eq q) (near_entries 0 slots ++ far) ≡ Some run
+only_far slots far q run none found =
+    lookup-entries slots far q ∙ ap (λ x. or_else x (lookup (nat_eq q) far)) none ∙ found
 
 -- one slot is written
 pub set_slot : (slots : List (Option Run)) (id : ℕ) (slot : Option Run) → id < length slots

@@ -175,7 +175,8 @@ fn copy_slot(
     requires { IsRunWithin (length old_lits.now) slot }
     ensures lits { OnOk result (lits.new.items ≡ lits.old.items ++ lits_in old_lits.now slot) }
     ensures within { IfOk result (λ moved. IsRunWithin (length lits.new.items) moved) }
-    ensures same { IfOk result (λ moved. option_map (lits_of lits.new.items) moved ≡ option_map (lits_of old_lits.now) slot) }
+    ensures same { IfOk result (λ moved.
+        option_map (lits_of lits.new.items) moved ≡ option_map (lits_of old_lits.now) slot) }
 {
     let Some(run) = slot else {
         return Ok(None);

@@ -1,8 +1,8 @@
 -- one more run is moved
-use Rattle.std.proofs.Common.{◌≡◌, length, take, None, refl, arith}
+use Rattle.std.proofs.Common.{◌≡◌, length, take, None, refl}
 use Rattle.std.proofs.lemmas.List.{take_all}
 use Rattle.std.proofs.lemmas.List.Elements.{All-nil}
-use Rattle.gr_check.specs.Runs.{IsRunWithin, AreMoved}
+use Rattle.gr_check.specs.Runs.{IsRunWithin}
 use Rattle.gr_check.proofs.Moves.{moved_next}
 use Rattle.gr_check.proofs.pool.copy_near.Goals as goal
 

@@ -1,5 +1,5 @@
 -- a slot is emptied, if it is there
-use Rattle.std.proofs.Common.{◌<◌, ◌≤◌, length, arith, vec_len, None}
+use Rattle.std.proofs.Common.{◌<◌, ◌≤◌, length, arith, None}
 use Rattle.gr_check.proofs.Entries.{set_slot, past}
 use Rattle.gr_check.proofs.runs.clear_slot.Goals as goal
 

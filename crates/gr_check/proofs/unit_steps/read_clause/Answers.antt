@@ -1,8 +1,5 @@
 -- the first literal is found before the loop
-use Rattle.std.proofs.Common.{◌<◌, ◌≡◌, sym, ap, ◌∙◌, drop, List, Option}
-use Rattle.std.specs.Prelude.{IfSome, slice_get}
 use Rattle.gr_logic.specs.Rup.{members}
-use Rattle.gr_check.specs.Readings.{open_in}
 use Rattle.gr_check.proofs.Reading.{start, open_within, first_within}
 use Rattle.gr_check.proofs.unit_steps.read_clause.Goals as goal
 

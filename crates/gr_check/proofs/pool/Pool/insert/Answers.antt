@@ -1,5 +1,4 @@
 -- the map has one more clause
-use Rattle.std.proofs.Common.{◌≡◌, length, arith, refl}
 use Rattle.gr_check.specs.Entries.{entries_of}
 use Rattle.gr_check.proofs.RunMaps.{clauses_of-insert}
 use Rattle.gr_check.proofs.pool.Pool.insert.Goals as goal

@@ -1,7 +1,6 @@
 -- a run is put into the vector or into the map
-use Rattle.std.proofs.Common.{◌≡◌, ◌≤◌, ap, ◌++◌, length, None, get_or, arith}
+use Rattle.std.proofs.Common.{◌≤◌, length, None, arith}
 use Rattle.std.proofs.lemmas.List.{get_or_past}
-use Rattle.gr_check.specs.Entries.{near_entries}
 use Rattle.gr_check.proofs.Entries.{near_put, far_put}
 use Rattle.gr_check.proofs.runs.RunMap.insert.Goals as goal
 
