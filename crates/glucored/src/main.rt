@@ -1,8 +1,9 @@
 //! The program glucored: the words and the files of the process, handed to the one call that is proved.
 #![tactic(auto)]
 
-ghost use Rattle.std.specs.Prelude.{◌≡◌, map, string_bytes, IfOk};
+ghost use Rattle.std.specs.Prelude.{◌≡◌, drop, map, string_bytes, IfOk};
 ghost use Rattle.gr_top.specs.Checking.{output, sources};
+ghost use Rattle.gr_top.specs.Commands.{IsCheck, IsSolve, IsUnlawful};
 ghost use Rattle.gr_top.specs.Solving.{streams};
 ghost use Rattle.glucored.specs.Runs.{Ends};
 
@@ -41,7 +42,7 @@ fn exit_status<A: Source, B: Source, C: Sink, D: Sink>(
     out: &mut C,
     proof: &mut D,
 ) -> u8
-    ensures { Ends words.now
+    ensures ends { Ends words.now
         (streams (A.left cnf.old) (A.faults cnf.old)
         (C.written out.old) (C.faults out.old) (D.written proof.old) (D.faults proof.old))
         (streams (A.left cnf.new) (A.faults cnf.new)
@@ -50,6 +51,9 @@ fn exit_status<A: Source, B: Source, C: Sink, D: Sink>(
         (sources (A.left cnf.new) (A.faults cnf.new) (B.left log.new) (B.faults log.new))
         (output (C.written out.old) (C.faults out.old)) (output (C.written out.new) (C.faults out.new))
         result }
+    ensures cnf { IsUnlawful words.now → cnf.new ≡ cnf.old }
+    ensures log { (IsCheck words.now → ⊥) → log.new ≡ log.old }
+    ensures proof { (IsSolve words.now → ⊥) → proof.new ≡ proof.old }
 {
     let report = run(alloc, words, cnf, log, out, proof, &Open);
     code(&report.status)
@@ -60,7 +64,7 @@ fn read_words(rt: HostRuntime) -> Result<Words, OutOfMemory> {
     match env::args(&rt) {
         Ok(args) => {
             let args = args.collect::<Vec<String>>(rt.alloc())?;
-            words_of(rt.alloc(), args.get(1..).unwrap_or_default())
+            words_behind_name(rt.alloc(), &args)
         }
         Err(failed) => {
             if failed.kind() == ErrorKind::OutOfMemory {
@@ -68,6 +72,16 @@ fn read_words(rt: HostRuntime) -> Result<Words, OutOfMemory> {
             }
             Ok(Words::new(rt.alloc()))
         }
+    }
+}
+
+/// The words but the first, which is the program's name.
+fn words_behind_name(alloc: Global, args: &[String]) -> Result<Words, OutOfMemory>
+    ensures { IfOk result (λ words. words ≡ map string_bytes (drop 1 args.now)) }
+{
+    match args {
+        [] => Ok(Words::new(alloc)),
+        [_name, rest @ ..] => words_of(alloc, rest),
     }
 }
 

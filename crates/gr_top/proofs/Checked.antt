@@ -37,13 +37,19 @@ log-judges (Ok ReadFault) f old new read says = absurd says
 log-judges (Ok SinkFault) f old new read says = absurd says
 log-judges (Ok OutOfMemory) f old new read says = absurd says
 log-judges (Err stops.ReadFault) f old new read unread = inr (f, read, unread)
-log-judges (Err stops.OutOfMemory) f old new read says = tt
+log-judges (Err stops.OutOfMemory) f old new read few = inr (f, read, few)
 
 -- the formula's source failed
 pub unread-judges : (old new : Sources) → Rose old.cnf.faults new.cnf.faults
     → Reads program_limits (Err read_errors.ReadFault) old.cnf.text new.cnf.text → new.log ≡ old.log
     → Judges (Err stops.ReadFault) old new
 unread-judges old new rose reads kept = inl (rose, reads, kept)
+
+-- memory was wanting for the formula
+pub short-judges : (old new : Sources)
+    → Reads program_limits (Err read_errors.OutOfMemory) old.cnf.text new.cnf.text → new.log ≡ old.log
+    → Judges (Err stops.OutOfMemory) old new
+short-judges old new reads kept = inl (reads, kept)
 
 -- a told log has the outcome that was found
 found-given : (f : Cnf) (outcome : LogOutcome) (given : List ℕ) (new : Option (List ℕ))
@@ -154,4 +160,24 @@ told-checks (Err sink_errors.OutOfMemory) due s t old new r says whole part why 
 pub stopped-checks : (stopped : Stop) (s t : Sources) (old new : Output) (r : Report)
     → Judges (Err stopped) s t → new.text ≡ old.text → r.status ≡ stop_status stopped → IsBare r → Checks s t old new r
 stopped-checks stops.ReadFault s t old new r unread same is bare = checks ReadFault s t old new r is bare (unread, same)
-stopped-checks stops.OutOfMemory s t old new r unread same is bare = checks OutOfMemory s t old new r is bare (inl same)
+stopped-checks stops.OutOfMemory s t old new r short same is bare =
+    checks OutOfMemory s t old new r is bare (inl (short, same))
+
+no-read-fault : (due : Status) (s t : Sources) → IsDue due s t → due ≡ ReadFault → ⊥
+no-read-fault ReadFault s t says is = says
+no-read-fault Verified s t says is = cc
+no-read-fault (NotVerified reason) s t says is = cc
+no-read-fault (Grammar g) s t says is = cc
+no-read-fault (LogGrammar fault) s t says is = cc
+no-read-fault Satisfiable s t says is = says
+no-read-fault Unsatisfiable s t says is = says
+no-read-fault Usage s t says is = says
+no-read-fault SinkFault s t says is = says
+no-read-fault OutOfMemory s t says is = says
+
+-- where something is told of the two texts, no read failed
+pub due-is-no-read-fault : (done : Result (Unit {0}) SinkError) (due : Status) (s t : Sources)
+    → Judges (Ok due) s t → end_status done due ≡ ReadFault → ⊥
+due-is-no-read-fault (Ok ok) due s t says is = no-read-fault due s t says is
+due-is-no-read-fault (Err sink_errors.Fault) due s t says is = cc
+due-is-no-read-fault (Err sink_errors.OutOfMemory) due s t says is = cc

@@ -10,7 +10,7 @@ use Rattle.gr_logic.specs.Log.{LogState, Cause, opening, line_cause, after_line}
 use Rattle.gr_lrat.specs.Lines.{Spelling, Nothing, Spelled, Misspelt, HasNegativeHint, spelling}
 use Rattle.gr_lrat.specs.Logs.{LogEnd, AtEnd, AtBadLine, AtRatHint, AtLimit, LogRead, NumberedLine, with_line, log_from, log_read, log_outcome, LogOutcome, Verified, NoEmptyClause, Refused, BadLine, RatHint, TooLong, outcome_at, refused_or, outcome_from}
 use Rattle.gr_lrat.proofs.Cutting.{log_outcome_cut}
-use Rattle.gr_top.specs.CheckedLogs.{Finds, FindsNothing, IsAllRead}
+use Rattle.gr_top.specs.CheckedLogs.{Finds, FindsNothing, IsWithinLimit, IsAllRead}
 
 -- where the log's text is told, this comes of so many bytes of it
 abbrev pub IsOutcome : ℕ → Option (List ℕ) → Cnf → LogOutcome → Type 0
@@ -55,6 +55,20 @@ finds f outcome (Some text) q (Some rest) takes within is end = record {
 finds f outcome (Some text) q None takes within is end = absurd (let off = takes.left in cc)
 finds f outcome None q (Some rest) takes within is end = absurd (let off = takes.left in cc)
 finds f outcome None q None takes within is end = tt
+
+-- no more was taken than may be
+pub takes-few : (told : Option (List ℕ)) (q : Place) (r : Option (List ℕ)) → Takes (at_start (2 ^ 40)) told q r
+    → known q ≤ 2 ^ 40 → IsWithinLimit told r
+takes-few (Some text) q (Some rest) takes within =
+    record { taken = takes.piece; split = content takes.left; within = omega (arith, takes.count, within) }
+takes-few (Some text) q None takes within = absurd (let off = takes.left in cc)
+takes-few None q (Some rest) takes within = absurd (let off = takes.left in cc)
+takes-few None q None takes within = tt
+
+-- nothing was taken
+pub takes-none : (told : Option (List ℕ)) → IsWithinLimit told told
+takes-none (Some text) = record { taken = []; split = refl; within = omega arith }
+takes-none None = tt
 
 -- the end of the text is among the marks
 abbrev HasStop : List Mark → Type 0

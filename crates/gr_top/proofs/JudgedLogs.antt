@@ -25,7 +25,7 @@ use Rattle.gr_check.specs.declared.refusals.Finish.{Finish}
 use Rattle.gr_check.specs.declared.refusals.Finish.TheVariants as finishes
 use Rattle.gr_top.specs.CheckedLogs.{Shown, shown, lines_of, Finds, IsAllRead, IsProof, LogGives}
 use Rattle.gr_top.specs.Statuses.{finish_status, unread_status, refused_status}
-use Rattle.gr_top.proofs.FoundLogs.{IsOutcome, IsWhole, told-outcome, finds, finds-nothing, all-read}
+use Rattle.gr_top.proofs.FoundLogs.{IsOutcome, IsWhole, told-outcome, finds, finds-nothing, all-read, takes-few}
 
 -- what comes of the lines to come, from a state on
 abbrev pub outcome_read : LogState → LogRead → LogOutcome
@@ -151,7 +151,8 @@ refused-gives (refusals.HintNotUnit id) f s last last' p q l r x old faults foll
     refused-outcome f old.text s last last' p q l r x _ follows reads is
 refused-gives (refusals.NoConflict id) f s last last' p q l r x old faults follows reads is =
     refused-outcome f old.text s last last' p q l r x _ follows reads is
-refused-gives refusals.OutOfMemory f s last last' p q l r x old faults follows reads is = tt
+refused-gives refusals.OutOfMemory f s last last' p q l r x old faults follows reads is =
+    takes-few old.text q r (takes-then (at_start (2 ^ 40)) p q old.text l r follows.takes reads.takes) reads.within
 
 -- where no line comes next, the log ends so
 end-decides : (limit : ℕ) (f : Cnf) (told : Option (List ℕ)) (s : LogState) (last : Bool) (p : Place) (l r : Option (List ℕ))
@@ -273,7 +274,8 @@ unread-gives errors.ReadFault f s last last' p q l r old faults follows reads li
     let takes = takes-then (at_start (2 ^ 40)) p q old.text l r follows.takes reads.takes in
     let outcome = end-decides (taken q) f old.text s last p l r (AtLimit q.last) (TooLong q.last) follows before reads.answers.0 refl in
     (rose refl, finds-nothing f old.text q r q.last takes reads.within outcome)
-unread-gives errors.OutOfMemory f s last last' p q l r old faults follows reads limit rose = tt
+unread-gives errors.OutOfMemory f s last last' p q l r old faults follows reads limit rose =
+    takes-few old.text q r (takes-then (at_start (2 ^ 40)) p q old.text l r follows.takes reads.takes) reads.within
 
 -- what rose from a later count on rose from an earlier one
 pub rose-since : (a b c : ℕ) → a ≤ b → Rose b c → Rose a c

@@ -67,6 +67,19 @@ FindsNothing f (Some text) None = ⊥
 FindsNothing f None (Some rest) = ⊥
 FindsNothing f None None = Unit {0}
 
+-- at most 2^40 bytes were taken of the text, of which this rest is left
+pub record TakesFew (text rest : List ℕ) : Type 0 where
+  pub taken : List ℕ
+  pub split : text ≡ taken ++ rest
+  pub within : length taken ≤ 2 ^ 40
+
+-- at most 2^40 bytes were taken of what a source had left, where it tells that
+abbrev pub IsWithinLimit : Option (List ℕ) → Option (List ℕ) → Type 0
+IsWithinLimit (Some text) (Some rest) = TakesFew text rest
+IsWithinLimit (Some text) None = ⊥
+IsWithinLimit None (Some rest) = ⊥
+IsWithinLimit None None = Unit {0}
+
 -- where the log's text is told, it spells these lines
 abbrev pub AreLinesOf : Option (List ℕ) → List LogLine → Type 0
 AreLinesOf told lines = IfSome told (λ text. lines_of text ≡ lines)
@@ -128,4 +141,4 @@ IsLogUnread f old new = Rose old.faults new.faults × FindsNothing f old.text ne
 abbrev pub LogGives : Result Status Stop → Cnf → Shown → Shown → Type 0
 LogGives (Ok status) f old new = SaysOfLog status f old.text new.text
 LogGives (Err stops.ReadFault) f old new = IsLogUnread f old new
-LogGives (Err stops.OutOfMemory) f old new = Unit {0}
+LogGives (Err stops.OutOfMemory) f old new = IsWithinLimit old.text new.text

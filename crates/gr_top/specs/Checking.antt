@@ -9,7 +9,7 @@ use Rattle.gr_dimacs.specs.declared.faults.ReadError.TheVariants as errors
 use Rattle.gr_lrat.specs.Logs.{LogOutcome}
 use Rattle.gr_lrat.specs.Logs as outcomes
 use Rattle.gr_top.specs.CheckTexts.{check_text}
-use Rattle.gr_top.specs.CheckedLogs.{Shown, shown, SaysOfLog, IsLogUnread, outcome_of, unproved, misspelt}
+use Rattle.gr_top.specs.CheckedLogs.{Shown, shown, SaysOfLog, IsLogUnread, IsWithinLimit, outcome_of, unproved, misspelt}
 use Rattle.gr_top.specs.Solving.{Taking, IsReadFrom, IsFaultIn, IsBare, IsRefusal}
 use Rattle.gr_top.specs.declared.statuses.Status.{Status}
 use Rattle.gr_top.specs.declared.statuses.Status.TheVariants.{Satisfiable, Unsatisfiable, Verified, NotVerified, Usage, Grammar, LogGrammar, ReadFault, SinkFault, OutOfMemory}
@@ -77,11 +77,17 @@ IsDue ReadFault old new = ⊥
 IsDue SinkFault old new = ⊥
 IsDue OutOfMemory old new = ⊥
 
+-- memory was wanting: for the formula, and the log was left alone; or for the log
+abbrev pub IsCutShort : Sources → Sources → Type 0
+IsCutShort old new =
+    (Reads program_limits (Err errors.OutOfMemory) old.cnf.text new.cnf.text × (new.log ≡ old.log))
+    ⊎ ((f : Cnf) × IsFormulaRead f old new × IsWithinLimit old.log.text new.log.text)
+
 -- what is found of the two texts, or why nothing is: a source failed, or memory was wanting
 abbrev pub Judges : Result Status Stop → Sources → Sources → Type 0
 Judges (Ok status) old new = IsDue status old new
 Judges (Err stops.ReadFault) old new = IsUnread old new
-Judges (Err stops.OutOfMemory) old new = Unit {0}
+Judges (Err stops.OutOfMemory) old new = IsCutShort old new
 
 -- the status is true of the texts, and its text was written
 abbrev pub Tells : Status → Sources → Sources → Output → Output → Type 0
@@ -99,7 +105,7 @@ ChecksBy (Grammar g) s t old new = Tells (Grammar g) s t old new
 ChecksBy (LogGrammar fault) s t old new = Tells (LogGrammar fault) s t old new
 ChecksBy ReadFault s t old new = IsUnread s t × (new.text ≡ old.text)
 ChecksBy SinkFault s t old new = Rose old.faults new.faults × TellsPart s t old new
-ChecksBy OutOfMemory s t old new = (new.text ≡ old.text) ⊎ TellsPart s t old new
+ChecksBy OutOfMemory s t old new = (IsCutShort s t × (new.text ≡ old.text)) ⊎ TellsPart s t old new
 ChecksBy Satisfiable s t old new = ⊥
 ChecksBy Unsatisfiable s t old new = ⊥
 ChecksBy Usage s t old new = ⊥

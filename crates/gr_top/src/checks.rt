@@ -27,11 +27,12 @@ pub fn run_check<A: Source, B: Source, C: Sink>(
     log: &mut B,
     out: &mut C,
 ) -> Report
-    ensures { Checks
+    ensures checks { Checks
         (sources (A.left cnf.old) (A.faults cnf.old) (B.left log.old) (B.faults log.old))
         (sources (A.left cnf.new) (A.faults cnf.new) (B.left log.new) (B.faults log.new))
         (output (C.written out.old) (C.faults out.old)) (output (C.written out.new) (C.faults out.new))
         result }
+    ensures out { result.status ≡ Status.ReadFault → out.new ≡ out.old }
 {
     match judge(alloc, cnf, log) {
         Ok(due) => ended(alloc, write_check(due, out), due),

@@ -51,8 +51,8 @@ pub fn run<A: Source, B: Source, C: Sink, D: Sink, G: Gate>(
         result }
     ensures log { (IsCheck words.now → ⊥) → log.new ≡ log.old }
     ensures proof { SparesProof result.status → proof.new ≡ proof.old }
-    ensures proof_of_check { IsCheck words.now → proof.new ≡ proof.old }
-    ensures out { IsSolve words.now → result.status ≡ Status.ReadFault → out.new ≡ out.old }
+    ensures proof_of_others { (IsSolve words.now → ⊥) → proof.new ≡ proof.old }
+    ensures out { result.status ≡ Status.ReadFault → out.new ≡ out.old }
     ensures cnf { IsUnlawful words.now → cnf.new ≡ cnf.old }
 {
     match words.call() {

@@ -347,6 +347,22 @@ fn verifies_what_it_wrote(rt: HostRuntime) -> Result<(), Fail> {
 }
 
 #[test]
+fn reads_no_further_once_a_line_decides(rt: HostRuntime) -> Result<(), Fail> {
+    let alloc = rt.alloc();
+    // The log comes in pieces of 8 bytes, and the second read fails.
+    let cases = [("5 0 1 0\n6 0 5 3 4 0\n", 1), ("5 0 1 b\n6 0 5 3 4 0\n", 3)];
+    for (lines, want) in cases {
+        let mut cnf = source_of(alloc, FOUR_CLAUSES)?;
+        let second = Vec::from_slice(alloc, &[2])?;
+        let mut log = MemSource::new(Vec::from_slice(alloc, lines.as_bytes())?, 8, second);
+        let mut out = TextSink::new(alloc);
+        let report = run_check(alloc, &mut cnf, &mut log, &mut out);
+        assert_eq!(rt; code(&report.status), want, "on {lines:?}");
+    }
+    Ok(())
+}
+
+#[test]
 fn checks_nothing_where_a_stream_fails(rt: HostRuntime) -> Result<(), Fail> {
     let alloc = rt.alloc();
     let first = [1].as_slice();
