@@ -12,3 +12,5 @@ pub mod NormalForms
 pub mod ClosureLaws
 pub mod Seen
 pub mod Words
+pub mod WorkLists
+pub mod Restarts
