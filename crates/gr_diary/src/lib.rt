@@ -1,0 +1,6 @@
+//! The history of the exchange between the searching thread and the reducers: its entries, its rules and their laws.
+#![tactic(auto)]
+
+mod entries;
+
+pub use entries::Entry;
