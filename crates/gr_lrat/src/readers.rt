@@ -1,5 +1,5 @@
 // The reader of logs.
-ghost use Rattle.std.specs.Prelude.{◌≡◌, ◌≤◌, ◌<◌, ◌^◌, ◌-◌, ℕ, true, false, List, None, IfOk, IfErr};
+ghost use Rattle.std.specs.Prelude.{◌≡◌, ◌≤◌, ℕ, true, false, List, None, IfOk, IfErr};
 ghost use Rattle.std.specs.Option.{option_map};
 ghost use Rattle.gr_io.specs.Pieces.{Rose};
 ghost use Rattle.gr_text.specs.Places.{Takes, known, limit_of};
@@ -55,14 +55,12 @@ pub struct LineReader<'a, S: Source> {
 }
 
 impl<'a, S: Source> LineReader<'a, S> {
-    /// A reader of what the source has left, of which it takes at most so many bytes, a number below
-    /// 2^64 - 1.
+    /// A reader of what the source has left, of which it takes at most `max_bytes` bytes.
     pub fn new(
         alloc: Global,
         source: &'a mut S,
         max_bytes: u64,
     ) -> Result<LineReader<'a, S>, OutOfMemory>
-        requires { max_bytes < 2 ^ 64 - 1 }
         ensures same { IfOk result (λ r. r.scanner.source.ghost_name ≡ source.entry.ghost_name) }
         ensures source { IfOk result (λ r. r.scanner.source.now ≡ source.old) }
         ensures told { IfOk result (λ r. (limit : ℕ) →

@@ -1,6 +1,4 @@
 // Logs that are read and written, compared with tables made by hand.
-ghost use Rattle.std.specs.Prelude.{◌<◌, ◌^◌, ◌-◌};
-
 use crate::{LineError, LineReader, Numbered, write_line};
 use gr_io::{MemSource, Source, TextSink, TextSource};
 use gr_logic::{Clause, Ids, Line, Lit};
@@ -56,9 +54,7 @@ fn tell_error(alloc: Global, failed: LineError) -> Result<String, Fail> {
 }
 
 /// All that is read up to the end or an error.
-fn tell_all<S: Source>(alloc: Global, source: &mut S, max_bytes: u64) -> Result<Vec<u8>, Fail>
-    requires { max_bytes < 2 ^ 64 - 1 }
-{
+fn tell_all<S: Source>(alloc: Global, source: &mut S, max_bytes: u64) -> Result<Vec<u8>, Fail> {
     let mut told = Vec::new(alloc);
     let mut reader = match LineReader::new(alloc, source, max_bytes) {
         Ok(reader) => reader,
@@ -81,9 +77,7 @@ fn tell_all<S: Source>(alloc: Global, source: &mut S, max_bytes: u64) -> Result<
     Ok(told)
 }
 
-fn tell_text(alloc: Global, text: &[u8], max_bytes: u64) -> Result<Vec<u8>, Fail>
-    requires { max_bytes < 2 ^ 64 - 1 }
-{
+fn tell_text(alloc: Global, text: &[u8], max_bytes: u64) -> Result<Vec<u8>, Fail> {
     let mut source = TextSource::new(Vec::from_slice(alloc, text)?);
     tell_all(alloc, &mut source, max_bytes)
 }
@@ -202,6 +196,17 @@ fn a_line_counts_once_its_end_was_taken(rt: HostRuntime) -> Result<(), Fail> {
             told,
             "most {most}"
         );
+    }
+    Ok(())
+}
+
+#[test]
+fn any_number_is_a_limit_on_bytes(rt: HostRuntime) -> Result<(), Fail> {
+    let text = b"4 1 0 2 0\n\n5 d 4 0\n".as_slice();
+    let told = b"1 adds 4: 1 by 2\n3 deletes, 0: 4\nend\n".as_slice();
+    for max_bytes in [u64::MAX, u64::MAX - 1, 1 << 63] {
+        let read = tell_text(rt.alloc(), text, max_bytes)?;
+        assert_eq!(rt; read.as_slice(), told, "at most {max_bytes} bytes");
     }
     Ok(())
 }

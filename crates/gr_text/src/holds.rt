@@ -1,5 +1,5 @@
 // The bytes that a scanner holds.
-ghost use Rattle.std.specs.Prelude.{◌≡◌, ◌<◌, ◌≤◌, ◌+◌, ◌-◌, ◌^◌, ◌==◌, ℕ, [], length, take, drop, slice_range, true, false, IsTrue, IfOk, IfErr, OnOk, OnErr};
+ghost use Rattle.std.specs.Prelude.{◌≡◌, ◌<◌, ◌≤◌, ◌+◌, ◌-◌, ◌==◌, ℕ, [], length, take, drop, slice_range, true, false, IsTrue, IfOk, IfErr, OnOk, OnErr};
 ghost use Rattle.std.specs.Option.{option_map};
 ghost use Rattle.gr_io.specs.Pieces.{ComesOff, IsSpent, Rose};
 ghost use Rattle.gr_text.specs.Places.{Place, at_start, taken, known, limit_of, past_spaces, past_rest, past_word, past_token, past_line, with_piece, BeginsLineEnd, BeginsWord, BeginsPastSpaces, Filled};
@@ -23,7 +23,9 @@ pub struct Held {
     end: usize,
     passed: u64,
     spare: u64,
-    line: u64,
+    /// How many line feeds were passed. The line of the next byte is one more, which behind 2^64 - 1
+    /// line feeds is no number of 64 bits: there only the line of the last byte is told.
+    lines: u64,
     last: u64,
     first: bool,
     ended: bool,
@@ -40,22 +42,20 @@ impl Model for Held {
       ahead = take (h.end - h.to) (drop h.to h.bytes.items);
       passed = h.passed;
       spare = h.spare;
-      line = h.line;
+      line = h.lines + 1;
       last = h.last;
       first = h.first;
       ended = h.ended;
     } };
 
     ghost invariant = { λ h. (h.from ≤ h.to) × (h.to ≤ h.end) × (h.end ≤ length h.bytes.items)
-        × (h.line ≤ h.passed + 1) × (h.passed + (h.end - h.to) + h.spare < 2 ^ 64 - 1)
+        × (h.lines + (h.to - h.from) ≤ h.passed) × (h.passed + (h.end - h.to) + h.spare < 2 ^ 64)
         × (h.ended ≡ true → 0 < h.spare) };
 }
 
 impl Held {
-    /// Holds nothing yet, at the front of a text of which at most `max_bytes` bytes may be taken, a
-    /// number below 2^64 - 1: the text's end counts as one byte more.
+    /// Holds nothing yet, at the front of a text of which at most `max_bytes` bytes may be taken.
     pub fn new(alloc: Global, max_bytes: u64) -> Result<Held, ScanError>
-        requires { max_bytes < 2 ^ 64 - 1 }
         ensures ok { IfOk result (λ h. h ≡ at_start max_bytes) }
         ensures err { IfErr result (λ e. e ≡ ScanError.OutOfMemory) }
     {
@@ -70,7 +70,7 @@ impl Held {
             end: 0,
             passed: 0,
             spare: max_bytes,
-            line: 1,
+            lines: 0,
             last: 1,
             first: true,
             ended: false,
@@ -109,11 +109,13 @@ impl Held {
         self.ended
     }
 
-    /// The line of the next byte.
+    /// The line of the text's end, where the source gave it. One byte more could have been taken
+    /// there, so that fewer than 2^64 - 1 line feeds were passed.
     pub(crate) fn line(&self) -> u64
+        requires { self.now.ended ≡ true }
         ensures { result ≡ self.now.line }
     {
-        self.line
+        self.lines + 1
     }
 
     /// The line of the last byte that was passed, or 1.
@@ -132,7 +134,7 @@ impl Held {
         self.from = self.to;
         self.passed += count as u64;
         if count != 0 {
-            self.last = self.line;
+            self.last = self.lines + 1;
         }
     }
 
@@ -145,18 +147,19 @@ impl Held {
         self.from = self.to;
         self.passed += count as u64;
         if count != 0 {
-            self.last = self.line;
+            self.last = self.lines + 1;
         }
     }
 
-    /// Passes the bytes ahead that belong to the present token.
+    /// Passes the bytes ahead that belong to the present token, which has a byte then.
     pub(crate) fn grow_word(&mut self)
+        requires { 0 < length (past_word self.old).token }
         ensures { self.new ≡ past_word self.old }
     {
         let count = runs::word(&self.bytes[self.to..self.end]);
         self.to += count;
         self.passed += count as u64;
-        self.last = self.line;
+        self.last = self.lines + 1;
     }
 
     /// Whether the next byte is a line feed.
@@ -171,12 +174,13 @@ impl Held {
 
     /// Ends the present token, and answers whether it is its line's first.
     pub(crate) fn end_token(&mut self) -> bool
+        requires { 0 < length self.old.token }
         ensures first { result ≡ self.old.first }
         ensures place { self.new ≡ past_token self.old }
     {
         let first = self.first;
         self.first = false;
-        self.last = self.line;
+        self.last = self.lines + 1;
         first
     }
 
@@ -186,12 +190,12 @@ impl Held {
         ensures line { result ≡ self.old.line }
         ensures place { self.new ≡ past_line self.old }
     {
-        let line = self.line;
+        let line = self.lines + 1;
         self.to += 1;
         self.from = self.to;
         self.passed += 1;
         self.last = line;
-        self.line = line + 1;
+        self.lines = line;
         self.first = true;
         line
     }

@@ -1,5 +1,5 @@
 // The scanner.
-ghost use Rattle.std.specs.Prelude.{◌≡◌, ◌<◌, ◌≤◌, ◌^◌, ◌-◌, ℕ, [], length, true, false, Ok, IfOk, IfErr, OnOk, OnErr};
+ghost use Rattle.std.specs.Prelude.{◌≡◌, ◌≤◌, ℕ, [], length, true, false, Ok, IfOk, IfErr, OnOk, OnErr};
 ghost use Rattle.gr_io.specs.Pieces.{Rose};
 ghost use Rattle.gr_text.specs.Places.{BeginsWord, IsPastEnd, Takes, at_start, between, no_token, taken};
 ghost use Rattle.gr_text.specs.Scans.{Fails, Reaches, Spans, Scans, Skips, SkipFails, StandsAtEnd, EndsAgain, Advances, Keeps, scan_error_of, Gives};
@@ -61,14 +61,13 @@ impl<'a, S: Source, H: Drop> Drop for Scanner<'a, S, H> {
 }
 
 impl<'a, S: Source> Scanner<'a, S> {
-    /// A scanner of what the source has left, which takes at most `max_bytes` bytes of it, a number
-    /// below 2^64 - 1. It keeps a buffer of 64 KB, which grows only for a token that is longer.
+    /// A scanner of what the source has left, which takes at most `max_bytes` bytes of it. It keeps a
+    /// buffer of 64 KB, which grows only for a token that is longer.
     pub fn new(
         alloc: Global,
         source: &'a mut S,
         max_bytes: u64,
     ) -> Result<Scanner<'a, S>, ScanError>
-        requires { max_bytes < 2 ^ 64 - 1 }
         ensures same { IfOk result (λ s. s.source.ghost_name ≡ source.entry.ghost_name) }
         ensures source { IfOk result (λ s. s.source.now ≡ source.old) }
         ensures held { IfOk result (λ s. s.held ≡ at_start max_bytes) }
@@ -154,7 +153,7 @@ impl<'a, S: Source> Scanner<'a, S> {
             }
             if self.held.is_full() {
                 return Err(ScanError::TooLong {
-                    line: self.held.line(),
+                    line: self.held.last(),
                 });
             }
             match self.held.fill(self.source) {
@@ -202,8 +201,8 @@ impl<'a, S: Source> Scanner<'a, S> {
             Ok(()) => {}
             Err(failed) => return Err(failed),
         }
-        let line = self.held.line();
         let first = self.held.end_token();
+        let line = self.held.last();
         Ok(Scanned::Token { line, first })
     }
 

@@ -55,9 +55,9 @@ pub enum Status {
     NotVerified(NotVerified),
     /// The words are no lawful command line.
     Usage,
-    /// The text spells no formula: this is its first fault.
+    /// The text spells no formula within the limits on its counts, its literals and its bytes: this is its first fault.
     Grammar(GrammarFault),
-    /// The text of the proof log is misspelt: this is its first fault.
+    /// The text of the proof log is misspelt, or longer than may be looked at: this is its first fault.
     LogGrammar(LogFault),
     /// A source failed.
     ReadFault,

@@ -1,3 +1,4 @@
+use Rattle.std.proofs.Common.{◌+◌}
 use Rattle.gr_text.proofs.Windows.{run-passed}
 use Rattle.gr_text.proofs.holds.Held.skip_spaces.Goals as goal
 
@@ -7,5 +8,5 @@ returns-then-count-ne0 c =
     let i = c.self.invariant in
     let count = rw c.deref.ensures.value at c.spaces-count.ensures.count in
     rw (← c.self.view_is)
-    (run-passed _ h.bytes.items h.from h.to h.end _ h.passed h.spare h.line h.last h.first h.ended
+    (run-passed _ h.bytes.items h.from h.to h.end _ h.passed h.spare (h.lines + 1) h.last h.first h.ended
     i.1 i.2 count c.if-count-ne0.true)

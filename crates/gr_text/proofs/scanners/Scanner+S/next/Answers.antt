@@ -41,7 +41,7 @@ returns-clause-ok g c =
     spans-after (between p) p q.held o.held (left c.args.self.now.source.now)
     (left q.source.now) (left o.source.now) c.in-Ok-true.ensures.ok.onward
     c.in-Ok-true.ensures.ok.leads c.in-Ok.ensures.ok in
-    rw (c.end_token-first.ensures.place, c.end_token-first.ensures.first, c.line-line-2.ensures)
+    rw (c.last-line.ensures, c.end_token-first.ensures.place, c.end_token-first.ensures.first)
     (word-scanned (between p) p o.held (left c.args.self.now.source.now) (left o.source.now) spans)
 
 pub returns-in-Err-word-clause-takes : goal.returns-in-Err-word-clause-takes
