@@ -8,3 +8,4 @@ pub mod Bounds
 pub mod Compacting
 pub mod Hints
 pub mod Moves
+pub mod Sliding

@@ -1,5 +1,5 @@
 -- clauses as runs of one list of literals
-use Rattle.std.specs.Prelude.{ℕ, ◌+◌, ◌<◌, ◌≤◌, ◌≡◌, List, [], map, length, take, drop, Option, Some, None, nat_eq, option_map, slice_index_or, slice_get, All}
+use Rattle.std.specs.Prelude.{ℕ, ◌+◌, ◌<◌, ◌≤◌, ◌≡◌, Bool, true, ◌&&◌, nat_le, List, [], ◌∷◌, map, length, take, drop, Option, Some, None, nat_eq, option_map, slice_index_or, slice_get, All}
 use Rattle.std.specs.Map.{lookup}
 use Rattle.std.specs.FinMap as finite
 use Rattle.gr_logic.specs.Literals.{Literal}
@@ -28,6 +28,26 @@ lits_in lits (Some run) = lits_of lits run
 abbrev pub IsRunWithin : ℕ → Option Run → Type 0
 IsRunWithin count None = Unit {0}
 IsRunWithin count (Some run) = run.from + run.len ≤ count
+
+-- how many literals a run has, if there is one
+abbrev pub run_length : Option Run → ℕ
+run_length None = 0
+run_length (Some run) = run.len
+
+-- a run, if there is one, begins no earlier than here
+abbrev pub begins_from : ℕ → Option Run → Bool
+begins_from end None = true
+begins_from end (Some run) = nat_le end run.from
+
+-- a run, if there is one, that begins here instead
+abbrev pub moved_to : ℕ → Option Run → Option Run
+moved_to end None = None
+moved_to end (Some run) = Some (record { from = end; len = run.len })
+
+-- each run begins no earlier than where those before it end if they are moved together from here on
+abbrev pub are_in_order : ℕ → List (Option Run) → Bool
+are_in_order end [] = true
+are_in_order end (slot ∷ slots) = begins_from end slot && are_in_order (end + run_length slot) slots
 
 -- the clauses whose runs these are, place by place
 abbrev pub clauses_in : List Literal → List (Option Run) → List (Option (List Literal))

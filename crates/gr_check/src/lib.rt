@@ -2,6 +2,7 @@
 #![tactic(auto)]
 
 mod checker;
+mod compaction;
 mod deletions;
 mod marks;
 mod pool;

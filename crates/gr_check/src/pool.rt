@@ -1,13 +1,17 @@
 // The clauses that may be cited, their literals in one vector.
-ghost use Rattle.std.specs.Prelude.{◌≡◌, All, ◌≤◌, ◌+◌, ◌++◌, [], length, None, Some, IfOk, OnOk, OnErr, MatchOption, option_map, slice_get};
+ghost use Rattle.std.specs.Prelude.{◌≡◌, All, ◌≤◌, ◌+◌, ◌*◌, ◌++◌, [], length, None, Some, IfOk, OnOk, OnErr, MatchOption, option_map, slice_get};
 ghost use Rattle.std.specs.FinMap as map;
 ghost use Rattle.gr_check.specs.Runs.{lits_of, AreLocated, AreMoved, IsRunWithin, lits_in};
 
+use crate::compaction::{is_in_order, slide};
 use crate::runs::{Run, RunMap};
 use gr_logic::{Lit, OutOfMemory};
 use std::alloc::Global;
 use std::collections::HashMap;
 use std::marker::Model;
+
+/// How many slots of ids a literal of a removed clause pays for, where a compaction walks over them.
+const SLOTS_PER_LITERAL: usize = 16;
 
 /// Clauses by their ids: a contract sees the finite map.
 #[derive(Drop)]
@@ -82,7 +86,7 @@ impl Pool {
         ensures ok { OnOk result (self.new ≡ map.insert self.old id lits.now) }
         ensures err { OnErr result (self.new ≡ self.old) }
     {
-        self.make_room(lits.len());
+        self.make_room(lits.len())?;
         let end = self.lits.len();
         let run = append(&mut self.lits, lits)?;
         match self.runs.insert(id, run) {
@@ -103,21 +107,47 @@ impl Pool {
         }
     }
 
-    /// Makes room for so many literals more, where it can by giving back those of removed clauses.
-    /// It works only where the vector is full, so its cost is spread over the literals that fill it.
-    /// Where memory is wanting, it does nothing.
-    fn make_room(&mut self, count: usize)
+    /// Makes room for so many literals more. Only where the vector is full does it work, so its cost is spread over
+    /// the literals that fill it.
+    fn make_room(&mut self, count: usize) -> Result<(), OutOfMemory>
         ensures { self.new ≡ self.old }
     {
-        if count <= self.lits.capacity() - self.lits.len() {
-            return;
+        if self.lacks_room(count) && self.is_sparse() {
+            self.compact(count);
         }
-        if self.dead <= self.lits.len() / 4 {
-            let _ = self.lits.reserve_exact((self.lits.len() / 2).max(count));
+        if self.lacks_room(count) {
+            self.lits.reserve_exact(growth(self.lits.len(), count))?;
+        }
+        Ok(())
+    }
+
+    /// Whether the vector has no room for so many literals more.
+    fn lacks_room(&self, count: usize) -> bool {
+        self.lits.capacity() - self.lits.len() < count
+    }
+
+    /// Whether the literals of removed clauses are worth a compaction: more than a fifth of all, so that each of them
+    /// pays for at most four that move, and enough to pay for the walk over the ids' slots.
+    fn is_sparse(&self) -> bool {
+        let slots = self.runs.near.len().saturating_add(self.runs.far.len());
+        self.dead > self.lits.len() / 5 && self.dead >= slots / SLOTS_PER_LITERAL
+    }
+
+    /// Takes the literals of removed clauses out. Where all ids are in the vector of runs, which is in the order of
+    /// places as ids count up, the others are moved within their vector, and no memory is taken.
+    fn compact(&mut self, count: usize)
+        ensures { self.new ≡ self.old }
+    {
+        if self.runs.far.is_empty() {
+            if is_in_order(&self.runs.near) {
+                let end = slide(&mut self.lits, &mut self.runs.near);
+                self.lits.truncate(end);
+                self.dead = 0;
+            }
             return;
         }
         let live = self.lits.len().saturating_sub(self.dead);
-        if let Ok(pool) = self.compacted(live.saturating_add((live / 2).max(count))) {
+        if let Ok(pool) = self.compacted(live.saturating_add(growth(live, count))) {
             *self = pool;
         }
     }
@@ -145,6 +175,21 @@ impl Pool {
             dead: 0,
         })
     }
+}
+
+/// How many literals more a full vector of so many gets room for, where so many are to be appended.
+///
+/// Let L be the literals of live clauses, with those to be appended. A vector that grows is not sparse, so it has at
+/// most 5/4 L, and the old one and the new one have room for 5/4 (1 + 4/3) L at most, which is less than 3 L. A full one
+/// has room for 5/3 L, where L is the most that there were at once, as it never shrinks: a compaction within it takes
+/// nothing, and one to a new vector takes 4/3 L more, 3 L together. Where the ids are many and L is small, a sixteenth
+/// of the slots may be dead literals besides: old and new have 7/48 of a literal for each slot more, a twentieth of what
+/// the slots take.
+fn growth(len: usize, count: usize) -> usize
+    ensures enough { count ≤ result }
+    ensures bounded { 3 * result ≤ len + 3 * count }
+{
+    (len / 3).max(count)
 }
 
 /// Appends the literals of these runs, in order, and says where they are then.

@@ -126,7 +126,21 @@ fn reach_slot(near: &mut Vec<Option<Run>>, index: usize) -> Result<(), OutOfMemo
     if index < near.len() {
         return Ok(());
     }
+    reserve_slots(near, index)?;
     near.resize(index + 1, None)?;
+    Ok(())
+}
+
+/// Makes room for slots up to the index. A full vector grows by an eighth, so it never has room for more than an eighth
+/// beyond the ids that it reaches, and a slot is copied eight times at most, over many ids.
+fn reserve_slots(near: &mut Vec<Option<Run>>, index: usize) -> Result<(), OutOfMemory>
+    requires { index < usize.MAX }
+    ensures { near.new.items ≡ near.old.items }
+{
+    if index < near.capacity() {
+        return Ok(());
+    }
+    near.reserve_exact((near.len() / 8).max(index + 1 - near.len()))?;
     Ok(())
 }
 

@@ -6,4 +6,5 @@ use Rattle.gr_check.proofs.runs.reach_slot.Goals as goal
 pub returns-clause-same : goal.returns-clause-same
 returns-clause-same c =
     let few : length c.args.near.now.items ≤ c.args.index + 1 = omega arith in
-    resized c.args.near.now.items _ (c.args.index + 1) _ few c.in_ok-resize.ensures.items
+    resized c.args.near.now.items _ (c.args.index + 1) _ few
+    (rw c.reserve_slots.ensures at c.in_ok-resize.ensures.items)
