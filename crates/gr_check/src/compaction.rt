@@ -8,7 +8,7 @@ use gr_logic::Lit;
 /// Whether each run begins no earlier than where it would end up if all were moved together to the front, one by one.
 /// Runs that were appended as their ids came are in order, whichever of them were taken out since.
 pub(crate) fn is_in_order(near: &[Option<Run>]) -> bool
-    ensures { result ≡ are_in_order 0 near.now }
+    ensures order { result ≡ are_in_order 0 near.now }
 {
     let mut end = 0usize;
     for slot in near {
@@ -27,7 +27,7 @@ pub(crate) fn is_in_order(near: &[Option<Run>]) -> bool
 pub(crate) fn slide(lits: &mut Vec<Lit>, near: &mut Vec<Option<Run>>) -> usize
     requires order { are_in_order 0 near.old.items ≡ true }
     requires within { All (IsRunWithin (length lits.old.items)) near.old.items }
-    ensures { AreMoved lits.old.items near.old.items (take result lits.new.items) near.new.items }
+    ensures moved { AreMoved lits.old.items near.old.items (take result lits.new.items) near.new.items }
 {
     let mut end = 0usize;
     for i in 0..near.len() {

@@ -1,5 +1,5 @@
 -- one more run is moved
-use Rattle.std.proofs.Common.{◌≡◌, ◌+◌, ◌<◌, ◌≤◌, true, length, get_or, None, arith, sym, ◌∙◌, ap}
+use Rattle.std.proofs.Common.{◌≡◌, ◌+◌, ◌<◌, true, length, get_or, None, arith, ◌∙◌, ap}
 use Rattle.std.proofs.lemmas.List.{get_or_read, length-set}
 use Rattle.gr_check.specs.Runs.{IsRunWithin, begins_from, run_length}
 use Rattle.gr_check.proofs.Sliding.{same_slot_at, next_begins, next_order, later, slots_behind, slid_next, end_within}
