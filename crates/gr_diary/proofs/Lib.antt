@@ -1,0 +1,13 @@
+pub mod LogPieces
+pub mod MoreClauses
+pub mod Meeting
+pub mod Lines
+pub mod Sound
+pub mod Among
+pub mod Moved
+pub mod Changes
+pub mod Left
+pub mod Own
+pub mod Taken
+pub mod Ends
+pub mod Lost

@@ -1,0 +1,47 @@
+// Laws of the definitions: each is the contract of a function that does nothing.
+ghost use Rattle.gr_diary.specs.Laws.{NoLineIsRefused, AddedClausesAreImplied, ReturnedClausesAreParts, EmptyClausesRefute, EntriesKeepTheInvariant, HistoriesKeepTheInvariant, OthersKeepHeld, OwnPartStays, EnabledStays, HeldClausesAreLive, StatesTellTheEnd, NothingFollowsTheEnd, OnlyLostIdsLeave};
+
+/// No line of a legal history's log is refused.
+pub fn no_line_is_refused()
+    ensures { NoLineIsRefused }
+{}
+
+/// Each clause that a legal history adds is implied by the formula.
+pub fn added_clauses_are_implied()
+    ensures { AddedClausesAreImplied }
+{}
+
+/// A clause that a reducer gives back is a proper part of the one that it took last.
+pub fn returned_clauses_are_parts()
+    ensures { ReturnedClausesAreParts }
+{}
+
+/// The log of a legal history that adds the empty clause is accepted, and no assignment satisfies the formula.
+pub fn empty_clauses_refute()
+    ensures { EmptyClausesRefute }
+{}
+
+/// Each entry keeps the invariant from any state that has it, and the state after a legal history has it.
+pub fn entries_keep_the_invariant()
+    ensures each { EntriesKeepTheInvariant }
+    ensures all { HistoriesKeepTheInvariant }
+    ensures others { OthersKeepHeld }
+{}
+
+/// What an actor holds, may cite, has taken and may do depends on its own entries alone, and what it holds stays live.
+pub fn own_part_stays()
+    ensures part { OwnPartStays }
+    ensures enabled { EnabledStays }
+    ensures live { HeldClausesAreLive }
+{}
+
+/// A state is closed, or refuted, just where the history is, and nothing follows on a closed history.
+pub fn closed_histories_end()
+    ensures told { StatesTellTheEnd }
+    ensures last { NothingFollowsTheEnd }
+{}
+
+/// Only ids that lose a holder by an entry leave at it.
+pub fn only_lost_ids_leave()
+    ensures { OnlyLostIdsLeave }
+{}
