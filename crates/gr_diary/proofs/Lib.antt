@@ -11,3 +11,10 @@ pub mod Own
 pub mod Taken
 pub mod Ends
 pub mod Lost
+pub mod Looks
+pub mod Small
+pub mod Fitting
+pub mod SearchLaws
+pub mod FreshLaws
+pub mod Units
+pub mod WholeRun

@@ -14,7 +14,7 @@ use Rattle.gr_diary.specs.declared.entries.Entry.TheVariants as entry
 use Rattle.gr_diary.specs.Entries.{Addition, actor_of, addition_of, adds_empty}
 use Rattle.gr_diary.specs.States.{State, Outcome, has, in_work, in_results, is_held, has_holder, is_left, passing, leaving}
 use Rattle.gr_diary.specs.Steps.{best_id, first_result, dropped, gained, work_after, is_import, result_of, results_after, moved, left_ids, first_item, replaced, lost}
-use Rattle.gr_diary.specs.Rules.{Allowed}
+use Rattle.gr_diary.specs.Rules.{Allowed, RisesFrom}
 use Rattle.gr_diary.specs.Laws.{OnlyLostIdsLeave}
 use Rattle.gr_diary.specs.Invariant.{among, IsInOrder, IsKept}
 use Rattle.gr_diary.proofs.Among.{same-number, or-second, or-first, not-both, among-append, among-kept, has-option}
@@ -22,21 +22,16 @@ use Rattle.gr_diary.proofs.Moved.{in-order, grown-cases, still-held, gain-held, 
 use Rattle.gr_diary.proofs.Changes.{changed}
 use Rattle.gr_diary.proofs.Left.{passing-first, passing-test, held-holder, work-holder, results-holder}
 
--- ascending from a number on
-abbrev pub Rises : ℕ → List ℕ → Type 0
-Rises low [] = Unit {0}
-Rises low (x ∷ xs) = (low ≤ x) × Rises (x + 1) xs
-
-rises-low : (xs : List ℕ) (low q : ℕ) → Rises low xs → has q xs ≡ true → low ≤ q
+rises-low : (xs : List ℕ) (low q : ℕ) → RisesFrom low xs → has q xs ≡ true → low ≤ q
 rises-low [] low q h e = absurd (cc)
 rises-low (x ∷ xs) low q h e = let l = h.0 in ⊎_elim (λ u. let z = eqb-true q x u in omega arith) (λ u. let z = rises-low xs (x + 1) q h.1 u in omega arith) (or_cases (nat_eq q x) (has q xs) e)
 
-rises-next : (xs : List ℕ) (low : ℕ) → Rises low xs → has low xs ≡ false → Rises (low + 1) xs
+rises-next : (xs : List ℕ) (low : ℕ) → RisesFrom low xs → has low xs ≡ false → RisesFrom (low + 1) xs
 rises-next [] low h e = tt
 rises-next (x ∷ xs) low h e = let l = h.0 in let z = (or_parts (nat_eq low x) (has low xs) e).0 in ((grind (arith, nat_tests)), h.1)
 
 -- the numbers that pass are those of a list, where the list has all that pass
-pub passing-filter : (test : ℕ → Bool) (count first : ℕ) (xs : List ℕ) → Rises first xs → ((q : ℕ) → has q xs ≡ true → q < first + count) → ((q : ℕ) → first ≤ q → q < first + count → test q ≡ true → has q xs ≡ true) → passing test first count ≡ filter test xs
+pub passing-filter : (test : ℕ → Bool) (count first : ℕ) (xs : List ℕ) → RisesFrom first xs → ((q : ℕ) → has q xs ≡ true → q < first + count) → ((q : ℕ) → first ≤ q → q < first + count → test q ≡ true → has q xs ≡ true) → passing test first count ≡ filter test xs
 passing-filter test zero first [] rises within all = refl
 passing-filter test zero first (x ∷ xs) rises within all = absurd (let z = within x (or-first (nat_eq x x) (has x xs) (same-number x)) in let l = rises.0 in omega arith)
 passing-filter test (suc count) first [] rises within all =
@@ -45,11 +40,11 @@ passing-filter test (suc count) first [] rises within all =
 passing-filter test (suc count) first (x ∷ xs) rises within all = pick (nat_eq first x) refl (passing-filter test count (first + 1))
   where
     pick : (b : Bool) → nat_eq first x ≡ b
-        → ((ys : List ℕ) → Rises (first + 1) ys → ((q : ℕ) → has q ys ≡ true → q < first + 1 + count) → ((q : ℕ) → first + 1 ≤ q → q < first + 1 + count → test q ≡ true → has q ys ≡ true) → passing test (first + 1) count ≡ filter test ys)
+        → ((ys : List ℕ) → RisesFrom (first + 1) ys → ((q : ℕ) → has q ys ≡ true → q < first + 1 + count) → ((q : ℕ) → first + 1 ≤ q → q < first + 1 + count → test q ≡ true → has q ys ≡ true) → passing test (first + 1) count ≡ filter test ys)
         → (if test first then first ∷ passing test (first + 1) count else passing test (first + 1) count) ≡ filter test (x ∷ xs)
     pick true is rest =
         let same : first ≡ x = eqb-true first x is in
-        let tail : passing test (first + 1) count ≡ filter test xs = rest xs (subst (λ z. Rises (z + 1) xs) (sym same) rises.1) (λ q h. let z = within q (or-second (nat_eq q x) (has q xs) h) in omega arith)
+        let tail : passing test (first + 1) count ≡ filter test xs = rest xs (subst (λ z. RisesFrom (z + 1) xs) (sym same) rises.1) (λ q h. let z = within q (or-second (nat_eq q x) (has q xs) h) in omega arith)
         (λ q low high t. ⊎_elim (λ u. absurd (let z = eqb-true q x u in omega arith)) (λ u. u) (or_cases (nat_eq q x) (has q xs) (all q (omega arith) (omega arith) t))) in
         ap (λ z. if test first then first ∷ z else z) tail ∙ ap (λ n. cond (test n) (n ∷ filter test xs) (filter test xs)) same
     pick false is rest =
@@ -140,7 +135,7 @@ module _ (f : Cnf) (reducers capacity : ℕ) (s : State) (k : IsKept f reducers 
       live-cases (Some c) is h = ⊎_elim (λ u. inl (ap is_some u)) (λ u. inr (u.2, (u.0, u.1))) (grown-cases s (addition_of e) q c is)
 
   -- the ids that leave are those of the lost ones that nobody holds
-  pub left_ids-are : (e : Entry) → Allowed f reducers s e → s.refuted ≡ false → adds_empty e ≡ false → Rises (length f.clauses + 1) (lost capacity s e) → ((q : ℕ) → has q (lost capacity s e) ≡ true → q < s.next) → left_ids f reducers capacity s e ≡ filter (is_left reducers (moved capacity s e)) (lost capacity s e)
+  pub left_ids-are : (e : Entry) → Allowed f reducers s e → s.refuted ≡ false → adds_empty e ≡ false → RisesFrom (length f.clauses + 1) (lost capacity s e) → ((q : ℕ) → has q (lost capacity s e) ≡ true → q < s.next) → left_ids f reducers capacity s e ≡ filter (is_left reducers (moved capacity s e)) (lost capacity s e)
   left_ids-are e ok unrefuted full rises below =
       ap (λ b. if b then [] else leaving f reducers (moved capacity s e)) full
       ∙ passing-filter (is_left reducers (moved capacity s e)) ((moved capacity s e).next - (length f.clauses + 1)) (length f.clauses + 1) (lost capacity s e) rises

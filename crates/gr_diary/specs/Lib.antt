@@ -6,3 +6,5 @@ pub mod Histories
 pub mod Invariant
 pub mod SearchRules
 pub mod Laws
+pub mod Examples
+pub mod RuleLaws

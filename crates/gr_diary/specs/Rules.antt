@@ -1,7 +1,6 @@
 -- when an entry is lawful
-use Rattle.std.specs.Prelude.{◌≡◌, ◌≢◌, ◌⊎◌, ◌<◌, ◌≤◌, ℕ, true, false, ◌||◌, nat_eq, nat_le, if◌then◌else◌, List, [], ◌∷◌, length, Option, Some, None, All, IsSome, IsTrue}
+use Rattle.std.specs.Prelude.{◌≡◌, ◌≢◌, ◌⊎◌, ◌<◌, ◌≤◌, ◌+◌, ℕ, true, false, ◌||◌, nat_eq, nat_le, if◌then◌else◌, List, [], ◌∷◌, length, Option, Some, None, All, IsSome, IsTrue}
 use Rattle.std.specs.Option.{option_map}
-use Rattle.std.specs.List.Sorted.{IsStrictlyIncreasing}
 use Rattle.std.specs.FinMap as map
 use Rattle.gr_logic.specs.Literals.{Literal}
 use Rattle.gr_logic.specs.Formulas.{Cnf, VarsUpTo}
@@ -73,6 +72,11 @@ MayReturn f part taken whole Same = KeepsAll (others_of part taken) whole
 MayReturn f part taken whole (Shorter c hints) =
     IsShortened (others_of part taken) whole c × IsJustified f part c hints
 
+-- each id is above the one before it, and the first is this number or above it
+abbrev pub RisesFrom : ℕ → List ℕ → Type 0
+RisesFrom low [] = Unit {0}
+RisesFrom low (id ∷ ids) = (low ≤ id) × RisesFrom (id + 1) ids
+
 -- the part of the entry's actor allows the entry
 abbrev pub IsAble : Cnf → ℕ → Part → Entry → Type 0
 IsAble f reducers part (Learn c hints lbd offered) =
@@ -85,7 +89,7 @@ IsAble f reducers part (Return actor outcome) =
 IsAble f reducers part Import = Unit {0}
 IsAble f reducers part Drained = Unit {0}
 IsAble f reducers part (Forget actor ids) =
-    (actor ≤ reducers) × (ids ≢ []) × IsStrictlyIncreasing ids × All (λ id. IsTrue (has id part.held)) ids
+    (actor ≤ reducers) × (ids ≢ []) × RisesFrom 0 ids × All (λ id. IsTrue (has id part.held)) ids
     × All (λ id. part.taken ≢ Some id) ids
 IsAble f reducers part Close = Unit {0}
 

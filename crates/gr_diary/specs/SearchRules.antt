@@ -63,11 +63,14 @@ is_drained Drained = true
 is_drained (Forget actor ids) = false
 is_drained Close = false
 
--- between a learnt clause at which a restart is due and the next learnt clause, the searching thread found no result left
+-- a clause is learnt only where no restart was due at the clause before it, or no result was left since
+abbrev pub IsAfterDrain : List Entry → Entry → Type 0
+IsAfterDrain before e =
+    is_learn e ≡ true → is_restart_due (restart_moves before) ≡ true
+    → list_any is_drained (since is_learn before) ≡ true
+
 abbrev pub DrainsAfterRestarts : List Entry → Type 0
-DrainsAfterRestarts d =
-    EachFits (λ before e. is_learn e ≡ true → is_restart_due (restart_moves before) ≡ true
-    → list_any is_drained (since is_learn before) ≡ true) d
+DrainsAfterRestarts d = EachFits IsAfterDrain d
 
 -- the searching thread lets ids go
 abbrev pub is_solver_forget : Entry → Bool
@@ -85,10 +88,12 @@ abbrev pub forget_count : List Entry → ℕ
 forget_count d = length (filter is_solver_forget d)
 
 -- the first time comes after at least 2,000 learnt clauses, and each later time after 2,000 more than the time before
+abbrev pub IsSpaced : List Entry → Entry → Type 0
+IsSpaced before e =
+    is_solver_forget e ≡ true → 2_000 * (forget_count before + 1) ≤ learn_count (since is_solver_forget before)
+
 abbrev pub SpacesForgets : List Entry → Type 0
-SpacesForgets d =
-    EachFits (λ before e. is_solver_forget e ≡ true
-    → 2_000 * (forget_count before + 1) ≤ learn_count (since is_solver_forget before)) d
+SpacesForgets d = EachFits IsSpaced d
 
 -- the clause is empty, or has no clause of the formula and none that the searching thread holds as a part
 abbrev pub IsFresh : Cnf → ℕ → ℕ → List Entry → Entry → Type 0

@@ -2,6 +2,8 @@
 #![tactic(auto)]
 
 mod entries;
+pub mod examples;
 pub mod laws;
+pub mod rule_laws;
 
 pub use entries::Entry;

@@ -1,0 +1,113 @@
+-- small histories: legal ones, and ones that a single entry makes illegal
+use Rattle.std.specs.Prelude.{◌≡◌, ℕ, ◌-◌, true, false, List, [], ◌∷◌, ◌++◌}
+use Rattle.gr_logic.specs.Literals.{Literal}
+use Rattle.gr_logic.specs.Formulas.{Cnf}
+use Rattle.gr_logic.specs.Rup.{rup, Accepted}
+use Rattle.gr_logic.specs.declared.items.Strengthened.TheVariants.{Same}
+use Rattle.gr_diary.specs.declared.entries.Entry.{Entry}
+use Rattle.gr_diary.specs.declared.entries.Entry.TheVariants.{Learn, Take, Return, Import, Drained, Forget, Close}
+use Rattle.gr_diary.specs.declared.entries.Entry.TheVariants as entry
+use Rattle.gr_diary.specs.Histories.{IsLegal, AddsEmptyClause, part_after}
+
+-- the literal of a variable, counted from 1, and its negation
+abbrev pub plus : ℕ → Literal
+plus var = record { index = var - 1; positive = true }
+
+abbrev pub minus : ℕ → Literal
+minus var = record { index = var - 1; positive = false }
+
+-- the formula `1`, `-1`
+abbrev pub opposites : Cnf
+opposites = record { vars = 1; clauses = (plus 1 ∷ []) ∷ (minus 1 ∷ []) ∷ [] }
+
+-- the empty clause, learnt from both clauses
+abbrev pub refute : Entry
+refute = Learn [] (1 ∷ 2 ∷ []) 0 false
+
+-- it may come first, so there are legal histories that refute
+abbrev pub RefutationIsLegal : Type 0
+RefutationIsLegal = IsLegal opposites 0 1 (refute ∷ []) × AddsEmptyClause (refute ∷ [])
+
+-- a hint behind the falsified clause must be one that may be cited too, though the unit steps do not read it
+abbrev pub UnreadHintCounts : Type 0
+UnreadHintCounts =
+    (rup (part_after opposites 0 1 [] 0).cites [] (1 ∷ 2 ∷ 3 ∷ []) ≡ Accepted)
+    × (¬ IsLegal opposites 0 1 (Learn [] (1 ∷ 2 ∷ 3 ∷ []) 0 false ∷ []))
+
+-- nothing comes behind the empty clause, or behind `Close`, not even another `Close`
+abbrev pub EndsAreLast : Type 0
+EndsAreLast =
+    IsLegal opposites 0 1 (Drained ∷ Close ∷ [])
+    × (¬ IsLegal opposites 0 1 (refute ∷ Close ∷ []))
+    × (¬ IsLegal opposites 0 1 (Close ∷ Drained ∷ []))
+    × (¬ IsLegal opposites 0 1 (Close ∷ Close ∷ []))
+
+-- nothing is taken from an empty work list, or taken over from an empty list of results
+abbrev pub EmptyListsGiveNothing : Type 0
+EmptyListsGiveNothing =
+    (¬ IsLegal opposites 1 1 (Take 1 ∷ []))
+    × (¬ IsLegal opposites 1 1 (Import ∷ []))
+
+-- the formula `1`, `-1 2`, `3 4 -2`
+abbrev pub chain : Cnf
+chain = record {
+  vars = 4;
+  clauses = (plus 1 ∷ []) ∷ (minus 1 ∷ plus 2 ∷ []) ∷ (plus 3 ∷ plus 4 ∷ minus 2 ∷ []) ∷ [];
+}
+
+-- the clause `3 4`, learnt from all three clauses and offered
+abbrev pub offer : Entry
+offer = Learn (plus 3 ∷ plus 4 ∷ []) (1 ∷ 2 ∷ 3 ∷ []) 2 true
+
+-- the clause `2`, learnt from the first two
+abbrev pub learn_two : Entry
+learn_two = Learn (plus 2 ∷ []) (1 ∷ 2 ∷ []) 1 false
+
+-- the unit clause `2` of the reducer
+abbrev pub share_two : Entry
+share_two = entry.Unit 1 (plus 2) (1 ∷ 2 ∷ [])
+
+-- one of each kind: the reducer keeps `3 4` as it is, and its unit clause is taken over
+abbrev pub whole_run : List Entry
+whole_run = offer ∷ Take 1 ∷ share_two ∷ Return 1 Same ∷ Import ∷ Drained ∷ Forget 0 (4 ∷ []) ∷ Close ∷ []
+
+abbrev pub WholeRunIsLegal : Type 0
+WholeRunIsLegal = IsLegal chain 1 1 whole_run
+
+-- the reducer may give nothing back before the literal 2, which its clauses make true, is a clause by itself
+abbrev pub UnitsComeFirst : Type 0
+UnitsComeFirst = ¬ IsLegal chain 1 1 (offer ∷ Take 1 ∷ Return 1 Same ∷ [])
+
+-- a reducer takes one clause at a time, and there are no more reducers than were said
+abbrev pub TakesAreSingle : Type 0
+TakesAreSingle =
+    (¬ IsLegal chain 1 2 (offer ∷ offer ∷ Take 1 ∷ Take 1 ∷ []))
+    × (¬ IsLegal chain 1 2 (offer ∷ offer ∷ Take 1 ∷ Take 2 ∷ []))
+    × (¬ IsLegal chain 1 2 (offer ∷ offer ∷ Take 0 ∷ []))
+
+-- the searching thread says that no result is left only where that is so
+abbrev pub DrainedMeansEmpty : Type 0
+DrainedMeansEmpty = ¬ IsLegal chain 1 1 (offer ∷ Take 1 ∷ share_two ∷ Drained ∷ [])
+
+-- an actor lets ids go that it holds, one or more, in ascending order, and not the one that it has taken
+abbrev pub ForgetsAreInOrder : Type 0
+ForgetsAreInOrder =
+    (¬ IsLegal chain 1 2 (offer ∷ offer ∷ Forget 0 (5 ∷ 4 ∷ []) ∷ []))
+    × (¬ IsLegal chain 1 2 (offer ∷ offer ∷ Forget 0 (4 ∷ 4 ∷ []) ∷ []))
+    × (¬ IsLegal chain 1 2 (offer ∷ offer ∷ Forget 0 [] ∷ []))
+    × (¬ IsLegal chain 1 2 (offer ∷ offer ∷ Forget 0 (1 ∷ []) ∷ []))
+    × (¬ IsLegal chain 1 2 (offer ∷ offer ∷ Take 1 ∷ Forget 1 (5 ∷ []) ∷ []))
+
+-- a clause of one literal is not offered, and an LBD is at most the number of literals
+abbrev pub LearnsAreInBounds : Type 0
+LearnsAreInBounds =
+    IsLegal chain 0 1 (learn_two ∷ [])
+    × (¬ IsLegal chain 0 1 (Learn (plus 2 ∷ []) (1 ∷ 2 ∷ []) 1 true ∷ []))
+    × (¬ IsLegal chain 0 1 (Learn (plus 2 ∷ []) (1 ∷ 2 ∷ []) 2 false ∷ []))
+
+-- the variables of a learnt clause are different, and the formula has them
+abbrev pub LearnsAreNormal : Type 0
+LearnsAreNormal =
+    (¬ IsLegal chain 0 1 (Learn (plus 2 ∷ plus 2 ∷ []) (1 ∷ 2 ∷ []) 1 false ∷ []))
+    × (¬ IsLegal chain 0 1 (Learn (plus 2 ∷ minus 2 ∷ []) (1 ∷ 2 ∷ []) 1 false ∷ []))
+    × (¬ IsLegal chain 0 1 (Learn (plus 2 ∷ plus 5 ∷ []) (1 ∷ 2 ∷ []) 1 false ∷ []))

@@ -1,0 +1,57 @@
+// Small histories, legal or made illegal by a single entry: each is the contract of a function that does nothing.
+ghost use Rattle.gr_diary.specs.Examples.{RefutationIsLegal, UnreadHintCounts, EndsAreLast, EmptyListsGiveNothing, WholeRunIsLegal, UnitsComeFirst, TakesAreSingle, DrainedMeansEmpty, ForgetsAreInOrder, LearnsAreInBounds, LearnsAreNormal};
+
+/// The empty clause, learnt from `1` and `-1`.
+pub fn refutation_is_legal()
+    ensures { RefutationIsLegal }
+{}
+
+/// Each hint of a learnt clause is one that may be cited.
+pub fn unread_hint_counts()
+    ensures { UnreadHintCounts }
+{}
+
+/// Nothing comes behind the empty clause or behind `Close`.
+pub fn ends_are_last()
+    ensures { EndsAreLast }
+{}
+
+/// Nothing is taken where nothing is on offer.
+pub fn empty_lists_give_nothing()
+    ensures { EmptyListsGiveNothing }
+{}
+
+/// An entry of each kind but the shorter clause.
+pub fn whole_run_is_legal()
+    ensures { WholeRunIsLegal }
+{}
+
+/// A reducer shares its unit clauses before it gives a clause back.
+pub fn units_come_first()
+    ensures { UnitsComeFirst }
+{}
+
+/// A reducer takes one clause at a time.
+pub fn takes_are_single()
+    ensures { TakesAreSingle }
+{}
+
+/// No result is left where the searching thread says so.
+pub fn drained_means_empty()
+    ensures { DrainedMeansEmpty }
+{}
+
+/// Which ids may be let go, and how they are listed.
+pub fn forgets_are_in_order()
+    ensures { ForgetsAreInOrder }
+{}
+
+/// What may be offered, and which LBDs a clause may have.
+pub fn learns_are_in_bounds()
+    ensures { LearnsAreInBounds }
+{}
+
+/// Which variables a learnt clause may have.
+pub fn learns_are_normal()
+    ensures { LearnsAreNormal }
+{}
