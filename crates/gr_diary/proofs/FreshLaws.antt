@@ -5,6 +5,7 @@ use Rattle.gr_logic.specs.Literals.{Literal, same_literal}
 use Rattle.gr_logic.specs.Rup.{Live}
 use Rattle.gr_diary.specs.declared.entries.Entry.{Entry}
 use Rattle.gr_diary.specs.declared.entries.Entry.TheVariants.{Learn, Forget}
+use Rattle.gr_diary.specs.Entries.{addition_of}
 use Rattle.gr_diary.specs.States.{State, initial_state, has}
 use Rattle.gr_diary.specs.Steps.{after}
 use Rattle.gr_diary.specs.Rules.{Part, IsSubclause}
@@ -13,7 +14,7 @@ use Rattle.gr_diary.specs.SearchRules.{LearnsFresh, IsFresh}
 use Rattle.gr_diary.specs.Examples.{plus, minus, chain, offer}
 use Rattle.gr_diary.specs.RuleLaws.{NothingIsLearntTwice}
 use Rattle.gr_diary.proofs.Fitting.{fits-none, fits-push}
-use Rattle.gr_diary.proofs.Looks.{Looks, formula_look, initial-looks, look_grown, after-looks, part_by, part-looks}
+use Rattle.gr_diary.proofs.Looks.{Looks, formula_look, initial-looks, look_after, after-looks, part_by, part-looks}
 
 -- the clause `3 4` has no clause of the formula in it
 apart : All (λ c. ¬ IsSubclause c (plus 3 ∷ plus 4 ∷ [])) chain.clauses
@@ -32,8 +33,8 @@ fresh-first before idle some = (
   λ id c got. absurd (let none = ap (λ ids. if has id ids then (Rattle.gr_diary.specs.Histories.part_after chain 1 2 before 0).cites id else None) idle in cc (none, got)),
 )
 
-offered-looks : Looks (after chain 1 2 (initial_state chain) offer) (look_grown (formula_look chain) 4 (Rattle.gr_diary.specs.Entries.addition_of offer))
-offered-looks = after-looks chain 1 2 (initial_state chain) (formula_look chain) offer (initial-looks chain) refl
+offered-looks : Looks (after chain 1 2 (initial_state chain) offer) (look_after (formula_look chain) 4 (addition_of offer) [])
+offered-looks = after-looks chain 1 2 (initial_state chain) (formula_look chain) offer [] (initial-looks chain) refl
 
 held-then : clauses_held_by chain 1 2 (offer ∷ []) 0 4 ≡ Some (plus 3 ∷ plus 4 ∷ [])
 held-then = offered-looks 4

@@ -17,4 +17,5 @@ pub mod Fitting
 pub mod SearchLaws
 pub mod FreshLaws
 pub mod Units
+pub mod Justified
 pub mod WholeRun

@@ -182,13 +182,12 @@ forgetting-is-rare n m ids = (
   (
     λ all. let both = (fits-push IsSpaced middle last).0 all in
         (first.0 (subst SpacesForgets refl (front both.0)), let enough = both.1 refl in omega (arith, counted, learnt)),
-    λ both. (fits-push IsSpaced middle last).1
-        (
-          subst SpacesForgets (append_assoc few (last ∷ []) more)
-              (fits-append IsSpaced (few ++ last ∷ []) more (first.1 both.0)
-              (fits-all (λ e. is_solver_forget e ≡ false) (λ before e. IsSpaced ((few ++ last ∷ []) ++ before) e) (λ before e other is. absurd (cc (other, is))) more (All-replicate (λ e. is_solver_forget e ≡ false) m (learn 3) refl))),
-          λ _. let enough = both.1 in omega (arith, counted, learnt),
-        ),
+    λ both. (fits-push IsSpaced middle last).1 (
+      subst SpacesForgets (append_assoc few (last ∷ []) more)
+          (fits-append IsSpaced (few ++ last ∷ []) more (first.1 both.0)
+          (fits-all (λ e. is_solver_forget e ≡ false) (λ before e. IsSpaced ((few ++ last ∷ []) ++ before) e) (λ before e other is. absurd (cc (other, is))) more (All-replicate (λ e. is_solver_forget e ≡ false) m (learn 3) refl))),
+      λ _. let enough = both.1 in omega (arith, counted, learnt),
+    ),
   ),
   (fits-push IsSpaced few (Forget 1 ids)).1 (learns-spaced n 3, λ is. absurd (cc is)),
 )

@@ -10,17 +10,7 @@ use Rattle.gr_diary.specs.States.{State, initial_state, has}
 use Rattle.gr_diary.specs.Rules.{Part, part_of, IsJustified, IsAble, Allowed, IsReady}
 use Rattle.gr_diary.specs.Histories.{part_after}
 use Rattle.gr_diary.specs.Examples.{opposites, refute, RefutationIsLegal, UnreadHintCounts, EndsAreLast, EmptyListsGiveNothing, plus, minus, chain, offer, learn_two, TakesAreSingle, DrainedMeansEmpty, ForgetsAreInOrder, LearnsAreInBounds, LearnsAreNormal}
-use Rattle.gr_diary.proofs.Looks.{Looks, formula_look, initial-looks, part_by, part-looks}
-
--- an entry that the part by a look-up allows
-pub able-by : (f : Rattle.gr_logic.specs.Formulas.Cnf) (reducers : ℕ) (s : State) (look : Rattle.gr_logic.specs.Rup.Live) (e : Entry)
-    → Looks s look → s.closed ≡ false → IsReady s e → IsAble f reducers (part_by f s look (actor_of e)) e
-    → Allowed f reducers s e
-able-by f reducers s look e same still ready able = record {
-  still_open = still;
-  ready = ready;
-  able = subst (λ p. IsAble f reducers p e) (part-looks f s look (actor_of e) same) able;
-}
+use Rattle.gr_diary.proofs.Looks.{Looks, formula_look, initial-looks, part_by, part-looks, able-by}
 
 abbrev first_part : Part
 first_part = part_by opposites (initial_state opposites) (formula_look opposites) 0
@@ -28,8 +18,7 @@ first_part = part_by opposites (initial_state opposites) (formula_look opposites
 pub refutation-is-legal : RefutationIsLegal
 refutation-is-legal = (
   (
-    able-by opposites 0 (initial_state opposites) (formula_look opposites) refute (initial-looks opposites) refl tt
-    (
+    able-by opposites 0 (initial_state opposites) (formula_look opposites) refute (initial-looks opposites) refl tt (
       record {
         normal = tt;
         within = All-nil (λ (l : Literal). l.index < 1);
@@ -83,8 +72,7 @@ forgets-are-in-order = (
 pub learns-are-in-bounds : LearnsAreInBounds
 learns-are-in-bounds = (
   (
-    able-by chain 0 (initial_state chain) (formula_look chain) learn_two (initial-looks chain) refl tt
-    (
+    able-by chain 0 (initial_state chain) (formula_look chain) learn_two (initial-looks chain) refl tt (
       record {
         normal = (λ q m. absurd (cc m), tt);
         within = All-cons (λ (l : Literal). l.index < 4) (plus 2) [] (omega arith) (All-nil (λ (l : Literal). l.index < 4));

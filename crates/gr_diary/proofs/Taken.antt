@@ -130,11 +130,11 @@ returned-clauses-are-parts f reducers capacity before actor c hints later legal 
     let parts = legal-parts f reducers capacity before (Return actor (Shorter c hints) ∷ later) (initial_state f) legal in
     let able = parts.1.0.able in
     let some : list_any (is_take_of actor) before ≡ true = true_from_ne_false (list_any (is_take_of actor) before) (λ none_taken.
-        let since = stretch f reducers capacity before (initial_state f) actor able.2 (begins-kept f reducers) parts.0 none_taken able.4 in
-        cc since.0) in
+    let since = stretch f reducers capacity before (initial_state f) actor able.2 (begins-kept f reducers) parts.0 none_taken able.4 in
+    cc since.0) in
     let last = last-passing (is_take_of actor) before some in
     let split : before ≡ last.0 ++ Take actor ∷ last.2 = last.3 ∙ ap (λ x. last.0 ++ x ∷ last.2) (take-is actor last.1 last.4) in
     let whole : before ++ Return actor (Shorter c hints) ∷ later ≡ last.0 ++ Take actor ∷ (last.2 ++ Return actor (Shorter c hints) ∷ later) =
-        ap (λ z. z ++ Return actor (Shorter c hints) ∷ later) split ∙ append_assoc last.0 (Take actor ∷ last.2) (Return actor (Shorter c hints) ∷ later) in
+    ap (λ z. z ++ Return actor (Shorter c hints) ∷ later) split ∙ append_assoc last.0 (Take actor ∷ last.2) (Return actor (Shorter c hints) ∷ later) in
     subst (λ z. IsPartOfLastTaken f reducers capacity z actor c) (sym split)
     (part-of-taken f reducers capacity last.0 last.2 actor c hints later (subst (IsLegal f reducers capacity) whole legal) last.5)

@@ -1,16 +1,24 @@
--- unit closure over the clauses `1`, `-1 2`, `3 4 -2` and perhaps `2`
-use Rattle.std.proofs.Common.{◌≡◌, ◌≢◌, ◌⊎◌, inl, inr, ⊎_elim, ℕ, Bool, true, false, ◌||◌, List, [], ◌∷◌, ◌++◌, Option, Some, None, option_map, refl, sym, ap, ◌∙◌, subst, nat_eq, if◌then◌else◌, All}
+-- unit closure over a few clauses, by closed sets that are checked
+use Rattle.std.proofs.Common.{◌≡◌, inl, inr, ℕ, Bool, true, false, not, ◌&&◌, ◌||◌, List, [], ◌∷◌, Some, refl, sym, ap, ◌∙◌, subst, All}
+use Rattle.std.specs.List.{list_any, list_all}
+use Rattle.std.proofs.lemmas.Bool.{and_parts}
 use Rattle.std.proofs.lemmas.List.Elements.{All-nil, All-cons, All-head, All-tail}
 use Rattle.gr_logic.specs.Literals.{Literal, negation, same_literal}
-use Rattle.gr_logic.specs.Rup.{LiteralSet, members, negated}
+use Rattle.gr_logic.specs.Rup.{LiteralSet, members}
 use Rattle.gr_logic.specs.Closure.{ClauseFamily, IsWithin, Forces, IsClosedUnder, InClosure, DerivesConflict, no_literals}
-use Rattle.gr_logic.specs.Greedy.{GreedyKeeps}
 use Rattle.gr_logic.proofs.Sound.{same_literal-is}
-use Rattle.gr_diary.specs.Examples.{plus, minus}
-use Rattle.gr_diary.specs.Rules.{HasItsUnits, KeepsAll}
+use Rattle.gr_logic.proofs.SameLiteral.{members-first, members-later}
+
+-- what a test says of each element
+pub all-by : {X : Type 0} (test : X → Bool) (P : X → Type 0) → ((x : X) → test x ≡ true → P x) → (xs : List X)
+    → list_all test xs ≡ true → All P xs
+all-by test P says [] passed = All-nil P
+all-by test P says (x ∷ xs) passed =
+    let parts = and_parts (test x) (list_all test xs) passed in
+    All-cons P x xs (says x parts.0) (all-by test P says xs parts.1)
 
 -- what holds of each literal of a clause
-members-each : (P : Literal → Type 0) (d : List Literal) → All P d → (q : Literal) → members d q ≡ true → P q
+pub members-each : (P : Literal → Type 0) (d : List Literal) → All P d → (q : Literal) → members d q ≡ true → P q
 members-each P [] all q m = absurd (cc)
 members-each P (x ∷ xs) all q m = pick (members-each P xs (All-tail P x xs all) q) (same_literal q x) refl m
   where
@@ -18,199 +26,104 @@ members-each P (x ∷ xs) all q m = pick (members-each P xs (All-tail P x xs all
     pick rest true is m = subst P (sym (same_literal-is q x is)) (All-head P x xs all)
     pick rest false is m = rest m
 
--- one clause of the four
-pub data IsOne (c : LiteralSet) : Type 0 where
-  first : c ≡ members (plus 1 ∷ []) → IsOne c
-  second : c ≡ members (minus 1 ∷ plus 2 ∷ []) → IsOne c
-  third : c ≡ members (plus 3 ∷ plus 4 ∷ minus 2 ∷ []) → IsOne c
-  unit : c ≡ members (plus 2 ∷ []) → IsOne c
-
-abbrev pub AreThese : ClauseFamily → Type 0
-AreThese k = (id : ℕ) (c : LiteralSet) → k id ≡ Some c → IsOne c
-
--- a set is closed under a clause where each literal that it lacks has another one beside it that is not false
-abbrev ClosedAt : LiteralSet → List Literal → Type 0
-ClosedAt set d = All (λ l. Forces set (members d) l → set l ≡ true) d
-
-record ClosedAtAll (set : LiteralSet) : Type 0 where
-  first : ClosedAt set (plus 1 ∷ [])
-  second : ClosedAt set (minus 1 ∷ plus 2 ∷ [])
-  third : ClosedAt set (plus 3 ∷ plus 4 ∷ minus 2 ∷ [])
-  unit : ClosedAt set (plus 2 ∷ [])
-
-closed-under : (k : ClauseFamily) (set : LiteralSet) → AreThese k → ClosedAtAll set → IsClosedUnder k set
-closed-under k set these at id c l is forced = pick (these id c is)
+-- a literal of the clause that passes a test
+one-passes : (test : Literal → Bool) (d : List Literal) → list_any test d ≡ true
+    → (q : Literal) × (members d q ≡ true) × (test q ≡ true)
+one-passes test [] passed = absurd (cc)
+one-passes test (x ∷ xs) passed = pick (one-passes test xs) (test x) refl passed
   where
-    by : (d : List Literal) → ClosedAt set d → c ≡ members d → set l ≡ true
-    by d closed same =
-        let here : Forces set (members d) l = subst (λ z. Forces set z l) same forced in
-        members-each (λ l. Forces set (members d) l → set l ≡ true) d closed l here.has here
+    pick : (list_any test xs ≡ true → (q : Literal) × (members xs q ≡ true) × (test q ≡ true))
+        → (b : Bool) → test x ≡ b → (b || list_any test xs) ≡ true → (q : Literal) × (members (x ∷ xs) q ≡ true) × (test q ≡ true)
+    pick rest true is passed = (x, members-first x xs, is)
+    pick rest false is passed = let later = rest passed in (later.0, members-later later.0 x xs later.1, later.2)
 
-    pick : IsOne c → set l ≡ true
-    pick (first same) = by (plus 1 ∷ []) at.first same
-    pick (second same) = by (minus 1 ∷ plus 2 ∷ []) at.second same
-    pick (third same) = by (plus 3 ∷ plus 4 ∷ minus 2 ∷ []) at.third same
-    pick (unit same) = by (plus 2 ∷ []) at.unit same
+-- the family's clauses are among those of the list
+abbrev pub AreThese : ClauseFamily → List (List Literal) → Type 1
+AreThese k ds =
+    (P : List Literal → Type 0) → All P ds → (id : ℕ) (c : LiteralSet) → k id ≡ Some c
+    → (d : List Literal) × (P d × (c ≡ members d))
 
--- the literals 1 and 2
-abbrev two_true : LiteralSet
-two_true = members (plus 1 ∷ plus 2 ∷ [])
+-- another literal of the clause beside this one is not false
+abbrev pub is_blocked : LiteralSet → List Literal → Literal → Bool
+is_blocked set d l = list_any (λ q. not (same_literal q l) && not (set (negation q))) d
 
-two_true-closed : ClosedAtAll two_true
-two_true-closed = record {
-  first = All-cons (At (plus 1 ∷ [])) (plus 1) [] (λ _. refl) (All-nil (At (plus 1 ∷ [])));
-  second = All-cons (At two) (minus 1) (plus 2 ∷ []) (λ f. absurd (let z = f.others (plus 2) refl refl in cc z)) (All-cons (At two) (plus 2) [] (λ _. refl) (All-nil (At two)));
-  third = All-cons (At three) (plus 3) (plus 4 ∷ minus 2 ∷ []) (λ f. absurd (let z = f.others (plus 4) refl refl in cc z))
-      (All-cons (At three) (plus 4) (minus 2 ∷ []) (λ f. absurd (let z = f.others (plus 3) refl refl in cc z))
-      (All-cons (At three) (minus 2) [] (λ f. absurd (let z = f.others (plus 3) refl refl in cc z)) (All-nil (At three))));
-  unit = All-cons (At (plus 2 ∷ [])) (plus 2) [] (λ _. refl) (All-nil (At (plus 2 ∷ [])));
-}
+-- the set has each literal of the clause that is not blocked
+abbrev pub is_closed_at : LiteralSet → List Literal → Bool
+is_closed_at set d = list_all (λ l. set l || is_blocked set d l) d
+
+not-false : (b : Bool) → not b ≡ true → b ≡ false
+not-false true e = absurd (cc)
+not-false false e = refl
+
+closed-at : (set : LiteralSet) (d : List Literal) → is_closed_at set d ≡ true
+    → (l : Literal) → Forces set (members d) l → set l ≡ true
+closed-at set d passed l forced = members-each Has d (all-by (λ l. set l || is_blocked set d l) Has says d passed) l forced.has forced
   where
-    At : List Literal → Literal → Type 0
-    At d l = Forces two_true (members d) l → two_true l ≡ true
+    Has : Literal → Type 0
+    Has l = Forces set (members d) l → set l ≡ true
 
-    two : List Literal
-    two = minus 1 ∷ plus 2 ∷ []
+    says : (l : Literal) → (set l || is_blocked set d l) ≡ true → Has l
+    says l test forced = pick (set l) test
+      where
+        pick : (b : Bool) → (b || is_blocked set d l) ≡ true → b ≡ true
+        pick true test = refl
+        pick false test =
+            let other = one-passes (λ q. not (same_literal q l) && not (set (negation q))) d test in
+            let parts = and_parts (not (same_literal other.0 l)) (not (set (negation other.0))) other.2 in
+            let is_true : set (negation other.0) ≡ true = forced.others other.0 other.1 (not-false (same_literal other.0 l) parts.0) in
+            let is_not : set (negation other.0) ≡ false = not-false (set (negation other.0)) parts.1 in
+            absurd (cc (is_true, is_not))
 
-    three : List Literal
-    three = plus 3 ∷ plus 4 ∷ minus 2 ∷ []
-
--- the literals 1, 2, -3 and 4
-abbrev four_true : LiteralSet
-four_true = members (plus 1 ∷ plus 2 ∷ minus 3 ∷ plus 4 ∷ [])
-
-four_true-closed : ClosedAtAll four_true
-four_true-closed = record {
-  first = All-cons (At (plus 1 ∷ [])) (plus 1) [] (λ _. refl) (All-nil (At (plus 1 ∷ [])));
-  second = All-cons (At two) (minus 1) (plus 2 ∷ []) (λ f. absurd (let z = f.others (plus 2) refl refl in cc z)) (All-cons (At two) (plus 2) [] (λ _. refl) (All-nil (At two)));
-  third = All-cons (At three) (plus 3) (plus 4 ∷ minus 2 ∷ []) (λ f. absurd (let z = f.others (plus 4) refl refl in cc z))
-      (All-cons (At three) (plus 4) (minus 2 ∷ []) (λ _. refl)
-      (All-cons (At three) (minus 2) [] (λ f. absurd (let z = f.others (plus 4) refl refl in cc z)) (All-nil (At three))));
-  unit = All-cons (At (plus 2 ∷ [])) (plus 2) [] (λ _. refl) (All-nil (At (plus 2 ∷ [])));
-}
+pub closed-under : (k : ClauseFamily) (ds : List (List Literal)) (set : LiteralSet) → AreThese k ds
+    → list_all (is_closed_at set) ds ≡ true → IsClosedUnder k set
+closed-under k ds set these passed id c l is forced =
+    let found = these Closed (all-by (is_closed_at set) Closed (closed-at set) ds passed) id c is in
+    found.1.0 l (subst (λ z. Forces set z l) found.1.1 forced)
   where
-    At : List Literal → Literal → Type 0
-    At d l = Forces four_true (members d) l → four_true l ≡ true
+    Closed : List Literal → Type 0
+    Closed d = (l : Literal) → Forces set (members d) l → set l ≡ true
 
-    two : List Literal
-    two = minus 1 ∷ plus 2 ∷ []
-
-    three : List Literal
-    three = plus 3 ∷ plus 4 ∷ minus 2 ∷ []
+-- the clause has a literal
+abbrev pub is_some_clause : List Literal → Bool
+is_some_clause [] = false
+is_some_clause (l ∷ ls) = true
 
 -- a closed set with no literal beside its negation shows that there is no conflict
-no-conflict : (k : ClauseFamily) (given : LiteralSet) (ls : List Literal) → AreThese k → IsWithin given (members ls)
-    → IsClosedUnder k (members ls) → All (λ l. members ls (negation l) ≡ false) ls → ¬ DerivesConflict k given
-no-conflict k given ls these within closed apart (inl both) =
+pub no-conflict : (k : ClauseFamily) (ds : List (List Literal)) (given : LiteralSet) (ls : List Literal) → AreThese k ds
+    → list_all is_some_clause ds ≡ true → IsWithin given (members ls) → list_all (is_closed_at (members ls)) ds ≡ true
+    → list_all (λ l. not (members ls (negation l))) ls ≡ true → ¬ DerivesConflict k given
+no-conflict k ds given ls these full within passed apart (inl both) =
+    let closed = closed-under k ds (members ls) these passed in
     let has : members ls both.0 ≡ true = both.1.0 (members ls) within closed in
     let beside : members ls (negation both.0) ≡ true = both.1.1 (members ls) within closed in
-    let lacks : members ls (negation both.0) ≡ false = members-each (λ l. members ls (negation l) ≡ false) ls apart both.0 has in
+    let lacks : members ls (negation both.0) ≡ false =
+        members-each (λ l. members ls (negation l) ≡ false) ls
+        (all-by (λ l. not (members ls (negation l))) (λ l. members ls (negation l) ≡ false) (λ l. not-false (members ls (negation l))) ls apart) both.0 has in
     cc (beside, lacks)
-no-conflict k given ls these within closed apart (inr empty) = pick (these empty.0 no_literals empty.1)
+no-conflict k ds given ls these full within passed apart (inr empty) =
+    let found = these Full (all-by is_some_clause Full full-by ds full) empty.0 no_literals empty.1 in
+    let has : no_literals found.1.0.0 ≡ true = ap (λ s. s found.1.0.0) found.1.1 ∙ found.1.0.1 in
+    cc has
   where
-    pick : IsOne no_literals → ⊥
-    pick (first same) = let z = ap (λ s. s (plus 1)) same in cc z
-    pick (second same) = let z = ap (λ s. s (minus 1)) same in cc z
-    pick (third same) = let z = ap (λ s. s (plus 3)) same in cc z
-    pick (unit same) = let z = ap (λ s. s (plus 2)) same in cc z
+    Full : List Literal → Type 0
+    Full d = (l : Literal) × (members d l ≡ true)
 
-abbrev pub HasFirstTwo : ClauseFamily → Type 0
-HasFirstTwo k = (k 1 ≡ Some (members (plus 1 ∷ []))) × (k 2 ≡ Some (members (minus 1 ∷ plus 2 ∷ [])))
+    full-by : (d : List Literal) → is_some_clause d ≡ true → Full d
+    full-by [] e = absurd (cc)
+    full-by (x ∷ xs) e = (x, members-first x xs)
 
--- the literals 1 and 2 follow
-one-follows : (k : ClauseFamily) (given : LiteralSet) → HasFirstTwo k → InClosure k given (plus 1)
-one-follows k given has set within closed =
-    closed 1 (members (plus 1 ∷ [])) (plus 1) has.0 record {
-      has = refl;
-      others = members-each Other (plus 1 ∷ []) (All-cons Other (plus 1) [] (λ apart. absurd (cc apart)) (All-nil Other));
+-- what is not in a closed set does not follow
+pub no-follow : (k : ClauseFamily) (ds : List (List Literal)) (given set : LiteralSet) (l : Literal) → AreThese k ds
+    → IsWithin given set → list_all (is_closed_at set) ds ≡ true → set l ≡ false → ¬ InClosure k given l
+no-follow k ds given set l these within passed lacks follows =
+    let has : set l ≡ true = follows set within (closed-under k ds set these passed) in cc (has, lacks)
+
+-- a clause of the family forces a literal whose other literals are all false
+pub forced-by : (k : ClauseFamily) (id : ℕ) (d : List Literal) (l : Literal) (set : LiteralSet) → IsClosedUnder k set
+    → k id ≡ Some (members d) → members d l ≡ true
+    → All (λ q. same_literal q l ≡ false → set (negation q) ≡ true) d → set l ≡ true
+forced-by k id d l set closed is has others =
+    closed id (members d) l is record {
+      has = has;
+      others = members-each (λ q. same_literal q l ≡ false → set (negation q) ≡ true) d others;
     }
-  where
-    Other : Literal → Type 0
-    Other q = same_literal q (plus 1) ≡ false → set (negation q) ≡ true
-
-pub two-follows : (k : ClauseFamily) (given : LiteralSet) → HasFirstTwo k → InClosure k given (plus 2)
-two-follows k given has set within closed =
-    closed 2 (members (minus 1 ∷ plus 2 ∷ [])) (plus 2) has.1 record {
-      has = refl;
-      others = members-each Other (minus 1 ∷ plus 2 ∷ [])
-          (All-cons Other (minus 1) (plus 2 ∷ []) (λ _. one-follows k given has set within closed)
-          (All-cons Other (plus 2) [] (λ apart. absurd (cc apart)) (All-nil Other)));
-    }
-  where
-    Other : Literal → Type 0
-    Other q = same_literal q (plus 2) ≡ false → set (negation q) ≡ true
-
--- where 3 is false too, 4 follows
-four-follows : (k : ClauseFamily) → HasFirstTwo k → k 3 ≡ Some (members (plus 3 ∷ plus 4 ∷ minus 2 ∷ []))
-    → InClosure k (negated (plus 3 ∷ [])) (plus 4)
-four-follows k has three set within closed =
-    closed 3 (members (plus 3 ∷ plus 4 ∷ minus 2 ∷ [])) (plus 4) three record {
-      has = refl;
-      others = members-each Other (plus 3 ∷ plus 4 ∷ minus 2 ∷ [])
-          (All-cons Other (plus 3) (plus 4 ∷ minus 2 ∷ []) (λ _. within (minus 3) refl)
-          (All-cons Other (plus 4) (minus 2 ∷ []) (λ apart. absurd (cc apart))
-          (All-cons Other (minus 2) [] (λ _. two-follows k (negated (plus 3 ∷ [])) has set within closed) (All-nil Other))));
-    }
-  where
-    Other : Literal → Type 0
-    Other q = same_literal q (plus 4) ≡ false → set (negation q) ≡ true
-
-no-given : (ls : List Literal) → IsWithin (negated []) (members ls)
-no-given ls l e = absurd (cc e)
-
-pub first-quiet : (k : ClauseFamily) → AreThese k → ¬ DerivesConflict k no_literals
-first-quiet k these =
-    no-conflict k no_literals (plus 1 ∷ plus 2 ∷ []) these (λ l e. absurd (cc e)) (closed-under k two_true these two_true-closed)
-    (All-cons Alone (plus 1) (plus 2 ∷ []) refl (All-cons Alone (plus 2) [] refl (All-nil Alone)))
-  where
-    Alone : Literal → Type 0
-    Alone l = two_true (negation l) ≡ false
-
--- with the clause `2` there, no unit is left to derive
-pub units-there : (k : ClauseFamily) → AreThese k → HasFirstTwo k → k 5 ≡ Some (members (plus 2 ∷ [])) → HasItsUnits k
-units-there k these has five = inr (λ l follows.
-    members-each There (plus 1 ∷ plus 2 ∷ []) (All-cons There (plus 1) (plus 2 ∷ []) (1, has.0) (All-cons There (plus 2) [] (5, five) (All-nil There))) l
-    (follows two_true (λ q e. absurd (cc e)) (closed-under k two_true these two_true-closed)))
-  where
-    There : Literal → Type 0
-    There l = (id : ℕ) × (k id ≡ Some (members (l ∷ [])))
-
--- greedy strengthening keeps `3 4`
-pub keeps-both : (k : ClauseFamily) → AreThese k → HasFirstTwo k → k 3 ≡ Some (members (plus 3 ∷ plus 4 ∷ minus 2 ∷ []))
-    → KeepsAll k (plus 3 ∷ plus 4 ∷ [])
-keeps-both k these has three = (
-  plus 3 ∷ plus 4 ∷ [],
-  inr (
-    no-conflict k (negated []) (plus 1 ∷ plus 2 ∷ []) these (no-given (plus 1 ∷ plus 2 ∷ [])) (closed-under k two_true these two_true-closed) alone_two,
-    inr (inr (
-      λ follows. let z = follows two_true (no-given (plus 1 ∷ plus 2 ∷ [])) (closed-under k two_true these two_true-closed) in cc z,
-      λ follows. let z = follows two_true (no-given (plus 1 ∷ plus 2 ∷ [])) (closed-under k two_true these two_true-closed) in cc z,
-      inr (
-        no-conflict k (negated (plus 3 ∷ [])) four these within_four (closed-under k four_true these four_true-closed) alone_four,
-        inr (inl (four-follows k has three, refl)),
-      ),
-    )),
-  ),
-  λ l m. m,
-)
-  where
-    four : List Literal
-    four = plus 1 ∷ plus 2 ∷ minus 3 ∷ plus 4 ∷ []
-
-    AloneTwo : Literal → Type 0
-    AloneTwo l = two_true (negation l) ≡ false
-
-    alone_two : All AloneTwo (plus 1 ∷ plus 2 ∷ [])
-    alone_two = All-cons AloneTwo (plus 1) (plus 2 ∷ []) refl (All-cons AloneTwo (plus 2) [] refl (All-nil AloneTwo))
-
-    Alone : Literal → Type 0
-    Alone l = four_true (negation l) ≡ false
-
-    alone_four : All Alone four
-    alone_four = All-cons Alone (plus 1) (plus 2 ∷ minus 3 ∷ plus 4 ∷ []) refl (All-cons Alone (plus 2) (minus 3 ∷ plus 4 ∷ []) refl (All-cons Alone (minus 3) (plus 4 ∷ []) refl (All-cons Alone (plus 4) [] refl (All-nil Alone))))
-
-    Within : Literal → Type 0
-    Within l = four_true l ≡ true
-
-    within_four : IsWithin (negated (plus 3 ∷ [])) four_true
-    within_four l m = members-each Within (minus 3 ∷ []) (All-cons Within (minus 3) [] refl (All-nil Within)) l m

@@ -69,7 +69,7 @@ share_two = entry.Unit 1 (plus 2) (1 ∷ 2 ∷ [])
 
 -- one of each kind: the reducer keeps `3 4` as it is, and its unit clause is taken over
 abbrev pub whole_run : List Entry
-whole_run = offer ∷ Take 1 ∷ share_two ∷ Return 1 Same ∷ Import ∷ Drained ∷ Forget 0 (4 ∷ []) ∷ Close ∷ []
+whole_run = offer ∷ Take 1 ∷ share_two ∷ Return 1 Same ∷ Import ∷ Drained ∷ Forget 0 (4 ∷ 5 ∷ []) ∷ Close ∷ []
 
 abbrev pub WholeRunIsLegal : Type 0
 WholeRunIsLegal = IsLegal chain 1 1 whole_run

@@ -46,16 +46,16 @@ is_take_of actor Close = false
 pub record IsPartOfLastTaken (f : Cnf) (reducers capacity : ℕ) (before : List Entry) (actor : ℕ) (c : List Literal) :
     Type 0
   where
-  pub earlier : List Entry
-  pub between : List Entry
-  pub splits : before ≡ earlier ++ Take actor ∷ between
-  pub last : list_any (is_take_of actor) between ≡ false
-  pub item : Item
-  pub offered : best (state_of f reducers capacity earlier).work ≡ Some item
-  pub whole : List Literal
-  pub live : map.get (state_of f reducers capacity earlier).live item.id ≡ Some whole
-  pub part : IsSubclause c whole
-  pub proper : ¬ IsSubclause whole c
+    pub earlier : List Entry
+    pub between : List Entry
+    pub splits : before ≡ earlier ++ Take actor ∷ between
+    pub last : list_any (is_take_of actor) between ≡ false
+    pub item : Item
+    pub offered : best (state_of f reducers capacity earlier).work ≡ Some item
+    pub whole : List Literal
+    pub live : map.get (state_of f reducers capacity earlier).live item.id ≡ Some whole
+    pub part : IsSubclause c whole
+    pub proper : ¬ IsSubclause whole c
 
 -- a clause that a reducer gives back is a proper part of the one that it took last
 abbrev pub ReturnedClausesAreParts : Type 0
