@@ -19,3 +19,4 @@ pub mod FreshLaws
 pub mod Units
 pub mod Justified
 pub mod WholeRun
+pub mod ShorteningRun

@@ -6,12 +6,15 @@ use Rattle.gr_logic.specs.Literals.{Literal, negation, same_literal}
 use Rattle.gr_logic.specs.Rup.{LiteralSet, Live, members, negated}
 use Rattle.gr_logic.specs.Closure.{ClauseFamily, IsWithin, InClosure, no_literals}
 use Rattle.gr_logic.specs.declared.items.Strengthened.TheVariants.{Same}
+use Rattle.gr_logic.specs.declared.lines.Line.TheVariants.{Add}
+use Rattle.gr_diary.specs.declared.entries.Entry.{Entry}
 use Rattle.gr_diary.specs.declared.entries.Entry.TheVariants.{Take, Return, Import, Drained, Forget, Close}
 use Rattle.gr_diary.specs.Entries.{addition_of}
 use Rattle.gr_diary.specs.States.{State, initial_state, has}
 use Rattle.gr_diary.specs.Steps.{after}
 use Rattle.gr_diary.specs.Rules.{Part, IsAble, HasItsUnits, KeepsAll, others_of}
-use Rattle.gr_diary.specs.Examples.{plus, minus, chain, offer, share_two, WholeRunIsLegal, UnitsComeFirst}
+use Rattle.gr_diary.specs.Histories.{IsLegal, lines_of}
+use Rattle.gr_diary.specs.Examples.{plus, minus, chain, offer, share_two, whole_run, WholeRunIsLegal, UnitsComeFirst}
 use Rattle.gr_diary.proofs.Looks.{Looks, formula_look, initial-looks, look_after, after-looks, lines-look, part_by, part-looks, able-by}
 use Rattle.gr_diary.proofs.Units.{AreThese, members-each, closed-under, no-conflict, no-follow, forced-by}
 use Rattle.gr_diary.proofs.Justified.{justified-by}
@@ -192,8 +195,8 @@ keeps-both = (
     within : IsWithin (negated (plus 3 ∷ [])) (members (plus 1 ∷ plus 2 ∷ minus 3 ∷ plus 4 ∷ []))
     within l m = members-each Within (minus 3 ∷ []) (All-cons Within (minus 3) [] refl (All-nil Within)) l m
 
-pub whole-run-is-legal : WholeRunIsLegal
-whole-run-is-legal = (
+legal : IsLegal chain 1 1 whole_run
+legal = (
   able-by chain 1 (initial_state chain) (formula_look chain) offer (initial-looks chain) refl tt
       (justified-by chain (part_by chain (initial_state chain) (formula_look chain) 0) (plus 3 ∷ plus 4 ∷ []) (1 ∷ 2 ∷ 3 ∷ []) refl refl refl refl, omega arith, λ _. omega arith),
   (
@@ -224,6 +227,26 @@ whole-run-is-legal = (
 
     Free : ℕ → Type 0
     Free id = None ≢ Some id
+
+lines : lines_of chain 1 1 whole_run ≡ Add 4 (plus 3 ∷ plus 4 ∷ []) (1 ∷ 2 ∷ 3 ∷ []) ∷ Add 5 (plus 2 ∷ []) (1 ∷ 2 ∷ []) ∷ []
+lines =
+    lines-look chain 1 1 (initial_state chain) (formula_look chain) offer [] (Take 1 ∷ share_two ∷ last_five) (Add 5 (plus 2 ∷ []) (1 ∷ 2 ∷ []) ∷ []) (initial-looks chain) refl
+    (lines-look chain 1 1 state1 look1 (Take 1) [] (share_two ∷ last_five) (Add 5 (plus 2 ∷ []) (1 ∷ 2 ∷ []) ∷ []) looks1 refl
+    (lines-look chain 1 1 state2 look1 share_two [] last_five [] looks2 refl
+    (lines-look chain 1 1 state3 look3 (Return 1 Same) [] last_four [] looks3 refl
+    (lines-look chain 1 1 state4 look3 Import [] (Drained ∷ Forget 0 (4 ∷ 5 ∷ []) ∷ Close ∷ []) [] looks4 refl
+    (lines-look chain 1 1 state5 look3 Drained [] (Forget 0 (4 ∷ 5 ∷ []) ∷ Close ∷ []) [] looks5 refl
+    (lines-look chain 1 1 state6 look3 (Forget 0 (4 ∷ 5 ∷ [])) [] (Close ∷ []) [] looks6 refl
+    (lines-look chain 1 1 state7 look3 Close [] [] [] looks7 refl refl)))))))
+  where
+    last_four : List Entry
+    last_four = Import ∷ Drained ∷ Forget 0 (4 ∷ 5 ∷ []) ∷ Close ∷ []
+
+    last_five : List Entry
+    last_five = Return 1 Same ∷ last_four
+
+pub whole-run-is-legal : WholeRunIsLegal
+whole-run-is-legal = (legal, lines)
 
 -- before the unit clause, no clause of the reducer is `2` by itself
 no-unit-yet : ¬ HasItsUnits before_unit

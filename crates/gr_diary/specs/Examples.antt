@@ -1,13 +1,14 @@
 -- small histories: legal ones, and ones that a single entry makes illegal
-use Rattle.std.specs.Prelude.{◌≡◌, ℕ, ◌-◌, true, false, List, [], ◌∷◌, ◌++◌}
+use Rattle.std.specs.Prelude.{◌≡◌, ℕ, ◌-◌, true, false, List, [], ◌∷◌, ◌++◌, map}
 use Rattle.gr_logic.specs.Literals.{Literal}
 use Rattle.gr_logic.specs.Formulas.{Cnf}
 use Rattle.gr_logic.specs.Rup.{rup, Accepted}
-use Rattle.gr_logic.specs.declared.items.Strengthened.TheVariants.{Same}
+use Rattle.gr_logic.specs.declared.items.Strengthened.TheVariants.{Same, Shorter}
+use Rattle.gr_logic.specs.declared.lines.Line.TheVariants.{Add, Delete}
 use Rattle.gr_diary.specs.declared.entries.Entry.{Entry}
 use Rattle.gr_diary.specs.declared.entries.Entry.TheVariants.{Learn, Take, Return, Import, Drained, Forget, Close}
 use Rattle.gr_diary.specs.declared.entries.Entry.TheVariants as entry
-use Rattle.gr_diary.specs.Histories.{IsLegal, AddsEmptyClause, part_after}
+use Rattle.gr_diary.specs.Histories.{IsLegal, AddsEmptyClause, lines_of, part_after}
 
 -- the literal of a variable, counted from 1, and its negation
 abbrev pub plus : ℕ → Literal
@@ -71,8 +72,12 @@ share_two = entry.Unit 1 (plus 2) (1 ∷ 2 ∷ [])
 abbrev pub whole_run : List Entry
 whole_run = offer ∷ Take 1 ∷ share_two ∷ Return 1 Same ∷ Import ∷ Drained ∷ Forget 0 (4 ∷ 5 ∷ []) ∷ Close ∷ []
 
+-- no clause is left without a holder
 abbrev pub WholeRunIsLegal : Type 0
-WholeRunIsLegal = IsLegal chain 1 1 whole_run
+WholeRunIsLegal =
+    IsLegal chain 1 1 whole_run
+    × (lines_of chain 1 1 whole_run
+    ≡ Add 4 (plus 3 ∷ plus 4 ∷ []) (1 ∷ 2 ∷ 3 ∷ []) ∷ Add 5 (plus 2 ∷ []) (1 ∷ 2 ∷ []) ∷ [])
 
 -- the reducer may give nothing back before the literal 2, which its clauses make true, is a clause by itself
 abbrev pub UnitsComeFirst : Type 0
@@ -111,3 +116,40 @@ LearnsAreNormal =
     (¬ IsLegal chain 0 1 (Learn (plus 2 ∷ plus 2 ∷ []) (1 ∷ 2 ∷ []) 1 false ∷ []))
     × (¬ IsLegal chain 0 1 (Learn (plus 2 ∷ minus 2 ∷ []) (1 ∷ 2 ∷ []) 1 false ∷ []))
     × (¬ IsLegal chain 0 1 (Learn (plus 2 ∷ plus 5 ∷ []) (1 ∷ 2 ∷ []) 1 false ∷ []))
+
+-- the formula `1 2`, `3 4`, `5 6`
+abbrev pub pairs : Cnf
+pairs = record {
+  vars = 6;
+  clauses = (plus 1 ∷ plus 2 ∷ []) ∷ (plus 3 ∷ plus 4 ∷ []) ∷ (plus 5 ∷ plus 6 ∷ []) ∷ [];
+}
+
+-- a clause of these variables, learnt from the first clause and offered
+abbrev pub offer_of : List ℕ → ℕ → Entry
+offer_of vars lbd = Learn (map plus vars) (1 ∷ []) lbd true
+
+-- where two items have room, the third drives out the first; the reducer takes the item with the least LBD; the searching
+-- thread lets the clause that was driven out go, and the one that was taken
+abbrev pub taken_run : List Entry
+taken_run =
+    offer_of (1 ∷ 2 ∷ 3 ∷ 4 ∷ 5 ∷ []) 5 ∷ offer_of (1 ∷ 2 ∷ 3 ∷ 4 ∷ 6 ∷ []) 3 ∷ offer_of (1 ∷ 2 ∷ 3 ∷ 5 ∷ 6 ∷ []) 4
+    ∷ Take 1 ∷ Forget 0 (4 ∷ []) ∷ Forget 0 (5 ∷ []) ∷ []
+
+-- the reducer gives the part `1 2` back, which is taken over; then it lets it go
+abbrev pub shortening_run : List Entry
+shortening_run =
+    taken_run ++ Return 1 (Shorter (plus 1 ∷ plus 2 ∷ []) (1 ∷ [])) ∷ Import ∷ Drained ∷ Forget 1 (7 ∷ []) ∷ []
+
+-- an id is deleted at the entry by which it loses its last holder, under the greatest id so far: the taken clause stays
+-- until the reducer gives a shorter one back, and that one stays since the searching thread has taken it over
+abbrev pub ShorteningRunIsLegal : Type 0
+ShorteningRunIsLegal =
+    IsLegal pairs 1 2 shortening_run
+    × (lines_of pairs 1 2 shortening_run
+    ≡ Add 4 (map plus (1 ∷ 2 ∷ 3 ∷ 4 ∷ 5 ∷ [])) (1 ∷ []) ∷ Add 5 (map plus (1 ∷ 2 ∷ 3 ∷ 4 ∷ 6 ∷ [])) (1 ∷ [])
+    ∷ Add 6 (map plus (1 ∷ 2 ∷ 3 ∷ 5 ∷ 6 ∷ [])) (1 ∷ []) ∷ Delete 6 (4 ∷ [])
+    ∷ Add 7 (plus 1 ∷ plus 2 ∷ []) (1 ∷ []) ∷ Delete 7 (5 ∷ []) ∷ [])
+
+-- it may not say that no literal can go
+abbrev pub ShorterIsNotSame : Type 0
+ShorterIsNotSame = ¬ IsLegal pairs 1 2 (taken_run ++ Return 1 Same ∷ [])

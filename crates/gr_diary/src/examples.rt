@@ -1,5 +1,5 @@
 // Small histories, legal or made illegal by a single entry: each is the contract of a function that does nothing.
-ghost use Rattle.gr_diary.specs.Examples.{RefutationIsLegal, UnreadHintCounts, EndsAreLast, EmptyListsGiveNothing, WholeRunIsLegal, UnitsComeFirst, TakesAreSingle, DrainedMeansEmpty, ForgetsAreInOrder, LearnsAreInBounds, LearnsAreNormal};
+ghost use Rattle.gr_diary.specs.Examples.{RefutationIsLegal, UnreadHintCounts, EndsAreLast, EmptyListsGiveNothing, WholeRunIsLegal, UnitsComeFirst, TakesAreSingle, DrainedMeansEmpty, ForgetsAreInOrder, LearnsAreInBounds, LearnsAreNormal, ShorteningRunIsLegal, ShorterIsNotSame};
 
 /// The empty clause, learnt from `1` and `-1`.
 pub fn refutation_is_legal()
@@ -21,7 +21,7 @@ pub fn empty_lists_give_nothing()
     ensures { EmptyListsGiveNothing }
 {}
 
-/// An entry of each kind but the shorter clause.
+/// An entry of each kind, where the reducer keeps the clause as it is.
 pub fn whole_run_is_legal()
     ensures { WholeRunIsLegal }
 {}
@@ -54,4 +54,14 @@ pub fn learns_are_in_bounds()
 /// Which variables a learnt clause may have.
 pub fn learns_are_normal()
     ensures { LearnsAreNormal }
+{}
+
+/// A clause that is replaced on offer, one that is shortened, and when they are deleted.
+pub fn shortening_run_is_legal()
+    ensures { ShorteningRunIsLegal }
+{}
+
+/// A reducer may not keep what greedy strengthening leaves out.
+pub fn shorter_is_not_same()
+    ensures { ShorterIsNotSame }
 {}
