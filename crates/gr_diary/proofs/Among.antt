@@ -29,38 +29,50 @@ module _ {X : Type 0} (key : X → ℕ) where
   pub among-append : (q : ℕ) (xs ys : List X) → among key q (xs ++ ys) ≡ (among key q xs || among key q ys)
   among-append q xs ys = list_any-append (λ x. nat_eq q (key x)) xs ys
 
-  pub among-cases : (q : ℕ) (xs ys : List X) → among key q (xs ++ ys) ≡ true → (among key q xs ≡ true) ⊎ (among key q ys ≡ true)
+  pub among-cases : (q : ℕ) (xs ys : List X) → among key q (xs ++ ys) ≡ true → (among key q xs ≡ true)
+      ⊎ (among key q ys ≡ true)
   among-cases q xs ys e = or_cases (among key q xs) (among key q ys) (sym (among-append q xs ys) ∙ e)
 
   pub among-filter : (p : X → Bool) (q : ℕ) (xs : List X) → among key q (filter p xs) ≡ true → among key q xs ≡ true
   among-filter p q [] e = e
   among-filter p q (x ∷ xs) e =
-      elim (p x) as (λ b. among key q (cond b (x ∷ filter p xs) (filter p xs)) ≡ true → (nat_eq q (key x) || among key q xs) ≡ true) [
+      elim (p x) as (λ b. among key q (cond b (x ∷ filter p xs) (filter p xs)) ≡ true
+      → (nat_eq q (key x) || among key q xs) ≡ true) [
         | true ↦ λ e. or-map (nat_eq q (key x)) (among key q (filter p xs)) (among key q xs) (among-filter p q xs) e
         | false ↦ λ e. or-second (nat_eq q (key x)) (among key q xs) (among-filter p q xs e)
       ] e
 
-  pub among-passes : (test : ℕ → Bool) (q : ℕ) (xs : List X) → among key q (filter (λ x. test (key x)) xs) ≡ true → test q ≡ true
+  pub among-passes : (test : ℕ → Bool) (q : ℕ) (xs : List X) → among key q (filter (λ x. test (key x)) xs) ≡ true
+      → test q ≡ true
   among-passes test q [] e = absurd (cc)
   among-passes test q (x ∷ xs) e =
-      elim (test (key x)) as (λ b. test (key x) ≡ b → among key q (cond b (x ∷ filter (λ x. test (key x)) xs) (filter (λ x. test (key x)) xs)) ≡ true → test q ≡ true) [
-        | true ↦ λ is e. here is (or_cases (nat_eq q (key x)) (among key q (filter (λ x. test (key x)) xs)) e) (among-passes test q xs)
+      elim (test (key x)) as (λ b. test (key x) ≡ b
+      → among key q (cond b (x ∷ filter (λ x. test (key x)) xs) (filter (λ x. test (key x)) xs)) ≡ true
+      → test q ≡ true) [
+        | true ↦ λ is e. here is (or_cases (nat_eq q (key x)) (among key q (filter (λ x. test (key x)) xs)) e)
+            (among-passes test q xs)
         | false ↦ λ _ e. among-passes test q xs e
       ] refl e
     where
-      here : test (key x) ≡ true → (nat_eq q (key x) ≡ true) ⊎ (among key q (filter (λ x. test (key x)) xs) ≡ true) → (among key q (filter (λ x. test (key x)) xs) ≡ true → test q ≡ true) → test q ≡ true
+      here : test (key x) ≡ true → (nat_eq q (key x) ≡ true) ⊎ (among key q (filter (λ x. test (key x)) xs) ≡ true)
+          → (among key q (filter (λ x. test (key x)) xs) ≡ true → test q ≡ true) → test q ≡ true
       here is (inl e) rest = ap test (eqb-true q (key x) e) ∙ is
       here is (inr e) rest = rest e
 
-  pub among-kept : (test : ℕ → Bool) (q : ℕ) (xs : List X) → test q ≡ true → among key q xs ≡ true → among key q (filter (λ x. test (key x)) xs) ≡ true
+  pub among-kept : (test : ℕ → Bool) (q : ℕ) (xs : List X) → test q ≡ true → among key q xs ≡ true
+      → among key q (filter (λ x. test (key x)) xs) ≡ true
   among-kept test q [] ok e = e
   among-kept test q (x ∷ xs) ok e =
-      elim (test (key x)) as (λ b. test (key x) ≡ b → among key q (cond b (x ∷ filter (λ x. test (key x)) xs) (filter (λ x. test (key x)) xs)) ≡ true) [
-        | true ↦ λ _. or-map (nat_eq q (key x)) (among key q xs) (among key q (filter (λ x. test (key x)) xs)) (among-kept test q xs ok) e
+      elim (test (key x)) as (λ b. test (key x) ≡ b
+      → among key q (cond b (x ∷ filter (λ x. test (key x)) xs) (filter (λ x. test (key x)) xs)) ≡ true) [
+        | true ↦ λ _. or-map (nat_eq q (key x)) (among key q xs) (among key q (filter (λ x. test (key x)) xs))
+            (among-kept test q xs ok) e
         | false ↦ λ is. there is (or_cases (nat_eq q (key x)) (among key q xs) e) (among-kept test q xs ok)
       ] refl
     where
-      there : test (key x) ≡ false → (nat_eq q (key x) ≡ true) ⊎ (among key q xs ≡ true) → (among key q xs ≡ true → among key q (filter (λ x. test (key x)) xs) ≡ true) → among key q (filter (λ x. test (key x)) xs) ≡ true
+      there : test (key x) ≡ false → (nat_eq q (key x) ≡ true) ⊎ (among key q xs ≡ true)
+          → (among key q xs ≡ true → among key q (filter (λ x. test (key x)) xs) ≡ true)
+          → among key q (filter (λ x. test (key x)) xs) ≡ true
       there is (inl e) rest = not-both (test q) ok (ap test (eqb-true q (key x) e) ∙ is)
       there is (inr e) rest = rest e
 
@@ -68,7 +80,8 @@ module _ {X : Type 0} (key : X → ℕ) where
   apart-filter p [] h = tt
   apart-filter p (x ∷ xs) h =
       elim (p x) as (λ b. IsApart key (cond b (x ∷ filter p xs) (filter p xs))) [
-        | true ↦ (false_from_ne_true (among key (key x) (filter p xs)) (λ e. not-both (among key (key x) xs) (among-filter p (key x) xs e) h.0), apart-filter p xs h.1)
+        | true ↦ (false_from_ne_true (among key (key x) (filter p xs))
+            (λ e. not-both (among key (key x) xs) (among-filter p (key x) xs e) h.0), apart-filter p xs h.1)
         | false ↦ apart-filter p xs h.1
       ]
 
@@ -76,8 +89,11 @@ module _ {X : Type 0} (key : X → ℕ) where
   apart-push [] y h out = (refl, tt)
   apart-push (x ∷ xs) y h out =
       let parts = or_parts (nat_eq (key y) (key x)) (among key (key y) xs) out in
-      let turned : nat_eq (key x) (key y) ≡ false = let n = parts.0 in grind (arith, nat_tests) in
-      (among-append (key x) xs (y ∷ []) ∙ or_from (among key (key x) xs) (nat_eq (key x) (key y) || false) h.0 (or_from (nat_eq (key x) (key y)) false turned refl), apart-push xs y h.1 parts.1)
+      let turned : nat_eq (key x) (key y) ≡ false = let n = parts.0 in grind (arith, nat_tests) in (
+        among-append (key x) xs (y ∷ []) ∙ or_from (among key (key x) xs) (nat_eq (key x) (key y) || false) h.0
+            (or_from (nat_eq (key x) (key y)) false turned refl),
+        apart-push xs y h.1 parts.1,
+      )
 
   pub among-rest : (q : ℕ) (xs : List X) → among key q (without_first xs) ≡ true → among key q xs ≡ true
   among-rest q [] e = e

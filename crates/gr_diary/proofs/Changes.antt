@@ -23,21 +23,26 @@ best_from-in : (xs : List Item) (x : Item) → in_work (best_from x xs).id (x �
 best_from-in [] x = or-first (nat_eq x.id x.id) false (same-number x.id)
 best_from-in (y ∷ ys) x = pick (comes_before x y) (best_from-in ys (if comes_before x y then x else y))
   where
-    pick : (b : Bool) → in_work (best_from (if b then x else y) ys).id ((if b then x else y) ∷ ys) ≡ true → in_work (best_from (if b then x else y) ys).id (x ∷ y ∷ ys) ≡ true
+    pick : (b : Bool) → in_work (best_from (if b then x else y) ys).id ((if b then x else y) ∷ ys) ≡ true
+        → in_work (best_from (if b then x else y) ys).id (x ∷ y ∷ ys) ≡ true
     pick true e = ⊎_elim (or-first (nat_eq (best_from x ys).id x.id) (in_work (best_from x ys).id (y ∷ ys)))
-        (λ u. or-second (nat_eq (best_from x ys).id x.id) (in_work (best_from x ys).id (y ∷ ys)) (or-second (nat_eq (best_from x ys).id y.id) (in_work (best_from x ys).id ys) u))
+        (λ u. or-second (nat_eq (best_from x ys).id x.id) (in_work (best_from x ys).id (y ∷ ys))
+        (or-second (nat_eq (best_from x ys).id y.id) (in_work (best_from x ys).id ys) u))
         (or_cases (nat_eq (best_from x ys).id x.id) (in_work (best_from x ys).id ys) e)
     pick false e = or-second (nat_eq (best_from y ys).id x.id) (in_work (best_from y ys).id (y ∷ ys)) e
 
 pub best-in : (xs : List Item) (q : ℕ) → option_map (λ (i : Item). i.id) (best xs) ≡ Some q → in_work q xs ≡ true
 best-in [] q e = absurd (cc)
-best-in (x ∷ xs) q e = let same : (best_from x xs).id ≡ q = cc in subst (λ z. in_work z (x ∷ xs) ≡ true) same (best_from-in xs x)
+best-in (x ∷ xs) q e = let same : (best_from x xs).id ≡ q = cc in subst (λ z. in_work z (x ∷ xs) ≡ true) same
+    (best_from-in xs x)
 
 first-in : (rs : List Outcome) (q : ℕ) → first_result rs ≡ Some q → in_results q rs ≡ true
 first-in [] q e = absurd (cc)
-first-in (r ∷ rs) q e = let same : r.id ≡ q = cc in or-first (nat_eq q r.id) (in_results q rs) (ap (nat_eq q) same ∙ same-number q)
+first-in (r ∷ rs) q e = let same : r.id ≡ q = cc in or-first (nat_eq q r.id) (in_results q rs)
+    (ap (nat_eq q) same ∙ same-number q)
 
-first-apart : (rs : List Outcome) (q : ℕ) → IsApart (λ (r : Outcome). r.id) rs → first_result rs ≡ Some q → in_results q (without_first rs) ≡ false
+first-apart : (rs : List Outcome) (q : ℕ) → IsApart (λ (r : Outcome). r.id) rs → first_result rs ≡ Some q
+    → in_results q (without_first rs) ≡ false
 first-apart [] q h e = absurd (cc)
 first-apart (r ∷ rs) q h e = let same : r.id ≡ q = cc in subst (λ z. in_results z rs ≡ false) same h.0
 
@@ -50,16 +55,27 @@ all-has P (x ∷ xs) q all h = pick (nat_eq q x) refl h (all-has P xs q (All-tai
     pick false is h rest = rest h
 
 module _ (f : Cnf) (reducers capacity : ℕ) (s : State) (k : IsInOrder f reducers s) where
-  result-new : (e : Entry) (q : ℕ) → in_results q (result_of s e) ≡ true → (q ≡ s.next) × IsLearnt f (moved capacity s e) s.next
+  result-new : (e : Entry) (q : ℕ) → in_results q (result_of s e) ≡ true
+      → (q ≡ s.next) × IsLearnt f (moved capacity s e) s.next
   result-new (Learn c hints lbd offered) q h = absurd (cc)
-  result-new (entry.Unit actor lit hints) q h = (pick (nat_lt 0 actor) h, new-learnt f reducers capacity s k (entry.Unit actor lit hints) record { clause = lit ∷ []; hints = hints } refl)
+  result-new (entry.Unit actor lit hints) q h = (
+    pick (nat_lt 0 actor) h,
+    new-learnt f reducers capacity s k (entry.Unit actor lit hints) record {
+      clause =
+          lit ∷ [];
+      hints = hints;
+    } refl,
+  )
     where
       pick : (b : Bool) → in_results q (if b then record { old = None; id = s.next } ∷ [] else []) ≡ true → q ≡ s.next
       pick true h = among-one (λ (r : Outcome). r.id) q record { old = None; id = s.next } h
       pick false h = absurd (cc)
   result-new (Take actor) q h = absurd (cc)
   result-new (Return actor Same) q h = absurd (cc)
-  result-new (Return actor (Shorter c hints)) q h = (among-one (λ (r : Outcome). r.id) q record { old = s.taken actor; id = s.next } h, new-learnt f reducers capacity s k (Return actor (Shorter c hints)) record { clause = c; hints = hints } refl)
+  result-new (Return actor (Shorter c hints)) q h = (
+    among-one (λ (r : Outcome). r.id) q record { old = s.taken actor; id = s.next } h,
+    new-learnt f reducers capacity s k (Return actor (Shorter c hints)) record { clause = c; hints = hints } refl,
+  )
   result-new Import q h = absurd (cc)
   result-new Drained q h = absurd (cc)
   result-new (Forget actor ids) q h = absurd (cc)
@@ -72,7 +88,8 @@ module _ (f : Cnf) (reducers capacity : ℕ) (s : State) (k : IsInOrder f reduce
       one : Outcome
       one = record { old = None; id = s.next }
 
-      pick : (b : Bool) → ((if b then one ∷ [] else []) ≡ []) ⊎ ((r : Outcome) × ((if b then one ∷ [] else []) ≡ r ∷ []) × (r.id ≡ s.next))
+      pick : (b : Bool) → ((if b then one ∷ [] else []) ≡ [])
+          ⊎ ((r : Outcome) × ((if b then one ∷ [] else []) ≡ r ∷ []) × (r.id ≡ s.next))
       pick true = inr (one, refl, refl)
       pick false = inl refl
   result-shape (Take actor) = inl refl
@@ -87,21 +104,31 @@ module _ (f : Cnf) (reducers capacity : ℕ) (s : State) (k : IsInOrder f reduce
   result-old (Learn c hints lbd offered) = All-nil (OldIsFine f (moved capacity s (Learn c hints lbd offered)))
   result-old (entry.Unit actor lit hints) = pick (nat_lt 0 actor)
     where
-      pick : (b : Bool) → All (OldIsFine f (moved capacity s (entry.Unit actor lit hints))) (if b then record { old = None; id = s.next } ∷ [] else [])
-      pick true = All-cons (OldIsFine f (moved capacity s (entry.Unit actor lit hints))) record { old = None; id = s.next } [] (λ id is. absurd (cc)) (All-nil (OldIsFine f (moved capacity s (entry.Unit actor lit hints))))
+      pick : (b : Bool) → All (OldIsFine f (moved capacity s (entry.Unit actor lit hints)))
+          (if b then record { old = None; id = s.next } ∷ [] else [])
+      pick true = All-cons (OldIsFine f (moved capacity s (entry.Unit actor lit hints))) record {
+        old = None;
+        id = s.next;
+      } [] (λ id is. absurd (cc))
+          (All-nil (OldIsFine f (moved capacity s (entry.Unit actor lit hints))))
       pick false = All-nil (OldIsFine f (moved capacity s (entry.Unit actor lit hints)))
   result-old (Take actor) = All-nil (OldIsFine f (moved capacity s (Take actor)))
   result-old (Return actor Same) = All-nil (OldIsFine f (moved capacity s (Return actor Same)))
   result-old (Return actor (Shorter c hints)) =
-      All-cons (OldIsFine f (moved capacity s (Return actor (Shorter c hints)))) record { old = s.taken actor; id = s.next } []
-      (λ id is. let t = k.taken actor id is in let l = k.held actor id t.0 in let b = l.below in (l.above, omega arith, stays-two f reducers capacity s k (Return actor (Shorter c hints)) id b t.1))
+      All-cons (OldIsFine f (moved capacity s (Return actor (Shorter c hints)))) record {
+        old = s.taken actor;
+        id = s.next;
+      } []
+      (λ id is. let t = k.taken actor id is in let l = k.held actor id t.0 in let b = l.below in
+      (l.above, omega arith, stays-two f reducers capacity s k (Return actor (Shorter c hints)) id b t.1))
       (All-nil (OldIsFine f (moved capacity s (Return actor (Shorter c hints)))))
   result-old Import = All-nil (OldIsFine f (moved capacity s Import))
   result-old Drained = All-nil (OldIsFine f (moved capacity s Drained))
   result-old (Forget actor ids) = All-nil (OldIsFine f (moved capacity s (Forget actor ids)))
   result-old Close = All-nil (OldIsFine f (moved capacity s Close))
 
-  base-among : (b : Bool) (q : ℕ) → in_results q (if b then without_first s.results else s.results) ≡ true → in_results q s.results ≡ true
+  base-among : (b : Bool) (q : ℕ) → in_results q (if b then without_first s.results else s.results) ≡ true
+      → in_results q s.results ≡ true
   base-among true q h = among-rest (λ (r : Outcome). r.id) q s.results h
   base-among false q h = h
 
@@ -117,22 +144,35 @@ module _ (f : Cnf) (reducers capacity : ℕ) (s : State) (k : IsInOrder f reduce
   base-old true = rest-All (OldIsFine f s) s.results k.old
   base-old false = k.old
 
-  results-from : (e : Entry) (q : ℕ) → in_results q (results_after s e) ≡ true → (in_results q s.results ≡ true) ⊎ ((q ≡ s.next) × IsLearnt f (moved capacity s e) s.next)
-  results-from e q h = ⊎_elim (λ u. inl (base-among (is_import e) q u)) (λ u. inr (result-new e q u)) (among-cases (λ (r : Outcome). r.id) q (if is_import e then without_first s.results else s.results) (result_of s e) h)
+  results-from : (e : Entry) (q : ℕ) → in_results q (results_after s e) ≡ true → (in_results q s.results ≡ true)
+      ⊎ ((q ≡ s.next) × IsLearnt f (moved capacity s e) s.next)
+  results-from e q h = ⊎_elim (λ u. inl (base-among (is_import e) q u)) (λ u. inr (result-new e q u))
+      (among-cases (λ (r : Outcome). r.id) q (if is_import e then without_first s.results else s.results)
+      (result_of s e) h)
 
   results-apart : (e : Entry) → IsApart (λ (r : Outcome). r.id) (results_after s e)
   results-apart e = ⊎_elim
-      (λ (u : result_of s e ≡ []). subst (λ z. IsApart (λ (r : Outcome). r.id) (base ++ z)) (sym u) (subst (IsApart (λ (r : Outcome). r.id)) (sym (append-nil base)) (base-apart (is_import e))))
-      (λ (u : (r : Outcome) × (result_of s e ≡ r ∷ []) × (r.id ≡ s.next)). subst (λ z. IsApart (λ (r : Outcome). r.id) (base ++ z)) (sym u.1) (apart-push (λ (r : Outcome). r.id) base u.0 (base-apart (is_import e))
-      (false_from_ne_true (in_results u.0.id base) (λ h. not-both (in_results s.next s.results) (subst (λ z. in_results z s.results ≡ true) u.2 (base-among (is_import e) u.0.id h)) (next-not-results f reducers capacity s k e)))))
+      (λ (u : result_of s e ≡ []). subst (λ z. IsApart (λ (r : Outcome). r.id) (base ++ z)) (sym u)
+      (subst (IsApart (λ (r : Outcome). r.id)) (sym (append-nil base)) (base-apart (is_import e))))
+      (λ (u : (r : Outcome) × (result_of s e ≡ r ∷ []) × (r.id ≡ s.next)). subst
+      (λ z. IsApart (λ (r : Outcome). r.id) (base ++ z)) (sym u.1)
+      (apart-push (λ (r : Outcome). r.id) base u.0 (base-apart (is_import e))
+      (false_from_ne_true (in_results u.0.id base)
+      (λ h. not-both (in_results s.next s.results)
+      (subst (λ z. in_results z s.results ≡ true) u.2 (base-among (is_import e) u.0.id h))
+      (next-not-results f reducers capacity s k e)))))
       (result-shape e)
     where
       base : List Outcome
       base = if is_import e then without_first s.results else s.results
 
   old-fine : (e : Entry) → All (OldIsFine f (moved capacity s e)) (results_after s e)
-  old-fine e = All-append (OldIsFine f (moved capacity s e)) (if is_import e then without_first s.results else s.results) (result_of s e)
-      (All-weaker (OldIsFine f s) (OldIsFine f (moved capacity s e)) (λ r fine id is. let t = fine id is in let l = next-grows s (addition_of e) in let b = t.1 in (t.0, omega arith, stays-two f reducers capacity s k e id b t.2)) (if is_import e then without_first s.results else s.results) (base-old (is_import e)))
+  old-fine e = All-append (OldIsFine f (moved capacity s e))
+      (if is_import e then without_first s.results else s.results) (result_of s e)
+      (All-weaker (OldIsFine f s) (OldIsFine f (moved capacity s e)) (λ r fine id is. let t = fine id is in
+      let l = next-grows s (addition_of e) in let b = t.1 in
+      (t.0, omega arith, stays-two f reducers capacity s k e id b t.2))
+      (if is_import e then without_first s.results else s.results) (base-old (is_import e)))
       (result-old e)
 
   not-in-results : (q : ℕ) → in_results q s.results ≡ false → in_results q (s.results ++ []) ≡ false
@@ -145,9 +185,12 @@ module _ (f : Cnf) (reducers capacity : ℕ) (s : State) (k : IsInOrder f reduce
       let new : IsLearnt f (moved capacity s e) s.next = new-learnt f reducers capacity s k e a refl in record {
         actor = omega arith;
         gain_learnt = λ q is. let same : s.next ≡ q = cc in subst (IsLearnt f (moved capacity s e)) same new;
-        gain_new = λ q is. let same : s.next ≡ q = cc in subst (λ z. has z (s.held 0) ≡ false) same (next-not-held f reducers capacity s k e 0);
+        gain_new = λ q is. let same : s.next ≡ q = cc in subst (λ z. has z (s.held 0) ≡ false) same
+            (next-not-held f reducers capacity s k e 0);
         gain_work = λ q is pos. absurd (omega arith);
-        gain_results = λ q is zero. let same : s.next ≡ q = cc in not-in-results q (subst (λ z. in_results z s.results ≡ false) same (next-not-results f reducers capacity s k e));
+        gain_results = λ q is zero. let same : s.next ≡ q = cc in
+            not-in-results q (subst (λ z. in_results z s.results ≡ false) same
+            (next-not-results f reducers capacity s k e));
         work = λ q h. work-from offered refl q h;
         work_apart = work-apart offered;
         results = results-from e;
@@ -172,35 +215,55 @@ module _ (f : Cnf) (reducers capacity : ℕ) (s : State) (k : IsInOrder f reduce
       base-is true = apart-rest (λ (i : Item). i.id) s.work k.work_apart
       base-is false = k.work_apart
 
-      work-from : (b : Bool) → offered ≡ b → (q : ℕ) → in_work q (if b then base (nat_eq (length s.work) capacity) ++ item ∷ [] else s.work) ≡ true
-          → (in_work q s.work ≡ true) ⊎ ((q ≡ s.next) × IsLearnt f (moved capacity s (Learn c hints lbd offered)) s.next × HasTwo (moved capacity s (Learn c hints lbd offered)) s.next)
+      work-from : (b : Bool) → offered ≡ b → (q : ℕ)
+          → in_work q (if b then base (nat_eq (length s.work) capacity) ++ item ∷ [] else s.work) ≡ true
+          → (in_work q s.work ≡ true)
+          ⊎ ((q ≡ s.next) × IsLearnt f (moved capacity s (Learn c hints lbd offered)) s.next
+          × HasTwo (moved capacity s (Learn c hints lbd offered)) s.next)
       work-from true is q h = ⊎_elim (λ u. inl (base-in (nat_eq (length s.work) capacity) q u))
           (λ u. inr (
             among-one (λ (i : Item). i.id) q item u,
             new-learnt f reducers capacity s k (Learn c hints lbd offered) record { clause = c; hints = hints } refl,
-            (λ d got. let same : c ≡ d = new-clause f reducers capacity s k (Learn c hints lbd offered) record { clause = c; hints = hints } refl d got in subst (λ z. 2 ≤ length z) same (ok.able.2 is)),
+            (λ d got. let same : c ≡ d = new-clause f reducers capacity s k
+                (Learn c hints lbd offered) record { clause = c; hints = hints } refl d got in
+                subst (λ z. 2 ≤ length z) same (ok.able.2 is)),
           ))
           (among-cases (λ (i : Item). i.id) q (base (nat_eq (length s.work) capacity)) (item ∷ []) h)
       work-from false is q h = inl h
 
-      work-apart : (b : Bool) → IsApart (λ (i : Item). i.id) (if b then base (nat_eq (length s.work) capacity) ++ item ∷ [] else s.work)
-      work-apart true = apart-push (λ (i : Item). i.id) (base (nat_eq (length s.work) capacity)) item (base-is (nat_eq (length s.work) capacity))
-          (false_from_ne_true (in_work s.next (base (nat_eq (length s.work) capacity))) (λ h. not-both (in_work s.next s.work) (base-in (nat_eq (length s.work) capacity) s.next h) (next-not-work f reducers capacity s k Close)))
+      work-apart : (b : Bool) → IsApart (λ (i : Item). i.id)
+          (if b then base (nat_eq (length s.work) capacity) ++ item ∷ [] else s.work)
+      work-apart true = apart-push (λ (i : Item). i.id) (base (nat_eq (length s.work) capacity)) item
+          (base-is (nat_eq (length s.work) capacity))
+          (false_from_ne_true (in_work s.next (base (nat_eq (length s.work) capacity)))
+          (λ h. not-both (in_work s.next s.work) (base-in (nat_eq (length s.work) capacity) s.next h)
+          (next-not-work f reducers capacity s k Close)))
       work-apart false = k.work_apart
   changed (entry.Unit actor lit hints) ok =
       let e : Entry = entry.Unit actor lit hints in
-      let new : IsLearnt f (moved capacity s e) s.next = new-learnt f reducers capacity s k e record { clause = lit ∷ []; hints = hints } refl in record {
+      let new : IsLearnt f (moved capacity s e) s.next =
+      new-learnt f reducers capacity s k e record { clause = lit ∷ []; hints = hints } refl in record {
         actor = ok.able.0;
         gain_learnt = λ q is. let same : s.next ≡ q = cc in subst (IsLearnt f (moved capacity s e)) same new;
-        gain_new = λ q is. let same : s.next ≡ q = cc in subst (λ z. has z (s.held actor) ≡ false) same (next-not-held f reducers capacity s k e actor);
-        gain_work = λ q is pos. let same : s.next ≡ q = cc in subst (λ z. in_work z s.work ≡ false) same (next-not-work f reducers capacity s k e);
-        gain_results = λ q is at_zero. let same : s.next ≡ q = cc in subst (λ z. in_results q (s.results ++ (if nat_lt 0 z then record { old = None; id = s.next } ∷ [] else [])) ≡ false) (sym at_zero) (not-in-results q (subst (λ z. in_results z s.results ≡ false) same (next-not-results f reducers capacity s k e)));
+        gain_new = λ q is. let same : s.next ≡ q = cc in subst (λ z. has z (s.held actor) ≡ false) same
+            (next-not-held f reducers capacity s k e actor);
+        gain_work = λ q is pos. let same : s.next ≡ q = cc in subst (λ z. in_work z s.work ≡ false) same
+            (next-not-work f reducers capacity s k e);
+        gain_results = λ q is at_zero. let same : s.next ≡ q = cc in
+            subst (λ z. in_results q
+            (s.results ++ (if nat_lt 0 z then record { old = None; id = s.next } ∷ [] else [])) ≡ false) (sym at_zero)
+            (not-in-results q (subst (λ z. in_results z s.results ≡ false) same
+            (next-not-results f reducers capacity s k e)));
         work = λ q h. inl h;
         work_apart = k.work_apart;
         results = results-from e;
         results_apart = results-apart e;
         old = old-fine e;
-        taken = λ q is. let t = k.taken actor q is in (still-held f reducers capacity s k e actor q t.0 (λ _. refl), stays-two f reducers capacity s k e q (k.held actor q t.0).below t.1);
+        taken = λ q is. let t = k.taken actor q is in (
+          still-held f reducers capacity s k e actor q t.0 (λ _. refl),
+          stays-two f reducers capacity s k e q
+              (k.held actor q t.0).below t.1,
+        );
         idle = λ at_zero. ap s.taken at_zero ∙ k.idle;
         justified = λ x is. justified f reducers s e x ok is;
       }
@@ -208,18 +271,23 @@ module _ (f : Cnf) (reducers capacity : ℕ) (s : State) (k : IsInOrder f reduce
       let e : Entry = Take actor in record {
         actor = ok.able.1;
         gain_learnt = λ q is. stays-learnt f reducers capacity s k e q (k.work q (best-in s.work q is)).0;
-        gain_new = λ q is. false_from_ne_true (has q (s.held actor)) (λ h. not-both (in_work q s.work) (best-in s.work q is) (k.work_free actor q ok.able.0 h));
+        gain_new = λ q is. false_from_ne_true (has q (s.held actor))
+            (λ h. not-both (in_work q s.work) (best-in s.work q is) (k.work_free actor q ok.able.0 h));
         gain_work = λ q is pos. false_from_ne_true (in_work q (work_after capacity s e)) (λ h.
             let p = among-passes (λ (i : Item). i.id) (λ z. not (has z (option_to_list (best_id s)))) q s.work h in
-            let t : has q (option_to_list (best_id s)) ≡ true = ap (λ o. has q (option_to_list o)) is ∙ or-first (nat_eq q q) false (same-number q) in
+            let t : has q (option_to_list (best_id s)) ≡ true = ap (λ o. has q (option_to_list o)) is
+            ∙ or-first (nat_eq q q) false (same-number q) in
             absurd (let z = ap not t in cc));
         gain_results = λ q is at_zero. absurd (let p = ok.able.0 in omega arith);
-        work = λ q h. inl (among-filter (λ (i : Item). i.id) (λ (i : Item). not (has i.id (option_to_list (best_id s)))) q s.work h);
-        work_apart = apart-filter (λ (i : Item). i.id) (λ (i : Item). not (has i.id (option_to_list (best_id s)))) s.work k.work_apart;
+        work = λ q h. inl (among-filter (λ (i : Item). i.id)
+            (λ (i : Item). not (has i.id (option_to_list (best_id s)))) q s.work h);
+        work_apart = apart-filter (λ (i : Item). i.id) (λ (i : Item). not (has i.id (option_to_list (best_id s))))
+            s.work k.work_apart;
         results = results-from e;
         results_apart = results-apart e;
         old = old-fine e;
-        taken = λ q is. let w = k.work q (best-in s.work q is) in (gain-held f reducers capacity s k e q is, stays-two f reducers capacity s k e q w.0.below w.1);
+        taken = λ q is. let w = k.work q (best-in s.work q is) in
+            (gain-held f reducers capacity s k e q is, stays-two f reducers capacity s k e q w.0.below w.1);
         idle = λ at_zero. absurd (let p = ok.able.0 in omega arith);
         justified = λ x is. justified f reducers s e x ok is;
       }
@@ -241,11 +309,16 @@ module _ (f : Cnf) (reducers capacity : ℕ) (s : State) (k : IsInOrder f reduce
       }
   changed (Return actor (Shorter c hints)) ok =
       let e : Entry = Return actor (Shorter c hints) in
-      let new : IsLearnt f (moved capacity s e) s.next = new-learnt f reducers capacity s k e record { clause = c; hints = hints } refl in record {
+      let new : IsLearnt f (moved capacity s e) s.next = new-learnt f reducers capacity s k e record {
+        clause = c;
+        hints = hints;
+      } refl in record {
         actor = ok.able.1;
         gain_learnt = λ q is. let same : s.next ≡ q = cc in subst (IsLearnt f (moved capacity s e)) same new;
-        gain_new = λ q is. let same : s.next ≡ q = cc in subst (λ z. has z (s.held actor) ≡ false) same (next-not-held f reducers capacity s k e actor);
-        gain_work = λ q is pos. let same : s.next ≡ q = cc in subst (λ z. in_work z s.work ≡ false) same (next-not-work f reducers capacity s k e);
+        gain_new = λ q is. let same : s.next ≡ q = cc in subst (λ z. has z (s.held actor) ≡ false) same
+            (next-not-held f reducers capacity s k e actor);
+        gain_work = λ q is pos. let same : s.next ≡ q = cc in subst (λ z. in_work z s.work ≡ false) same
+            (next-not-work f reducers capacity s k e);
         gain_results = λ q is at_zero. absurd (let p = ok.able.0 in omega arith);
         work = λ q h. inl h;
         work_apart = k.work_apart;
@@ -260,9 +333,11 @@ module _ (f : Cnf) (reducers capacity : ℕ) (s : State) (k : IsInOrder f reduce
       let e : Entry = Import in record {
         actor = omega arith;
         gain_learnt = λ q is. stays-learnt f reducers capacity s k e q (k.results q (first-in s.results q is));
-        gain_new = λ q is. false_from_ne_true (has q (s.held 0)) (λ h. not-both (in_results q s.results) (first-in s.results q is) (k.results_free q h));
+        gain_new = λ q is. false_from_ne_true (has q (s.held 0))
+            (λ h. not-both (in_results q s.results) (first-in s.results q is) (k.results_free q h));
         gain_work = λ q is pos. absurd (omega arith);
-        gain_results = λ q is at_zero. ap (in_results q) (append-nil (without_first s.results)) ∙ first-apart s.results q k.results_apart is;
+        gain_results = λ q is at_zero. ap (in_results q) (append-nil (without_first s.results))
+            ∙ first-apart s.results q k.results_apart is;
         work = λ q h. inl h;
         work_apart = k.work_apart;
         results = results-from e;
@@ -300,8 +375,12 @@ module _ (f : Cnf) (reducers capacity : ℕ) (s : State) (k : IsInOrder f reduce
         results = results-from e;
         results_apart = results-apart e;
         old = old-fine e;
-        taken = λ q is. let t = k.taken actor q is in
-            (still-held f reducers capacity s k e actor q t.0 (λ _. false_from_ne_true (has q ids) (λ h. all-has (λ id. s.taken actor ≢ Some id) ids q ok.able.4 h is)), stays-two f reducers capacity s k e q (k.held actor q t.0).below t.1);
+        taken = λ q is. let t = k.taken actor q is in (
+          still-held f reducers capacity s k e actor q t.0
+              (λ _. false_from_ne_true (has q ids)
+              (λ h. all-has (λ id. s.taken actor ≢ Some id) ids q ok.able.4 h is)),
+          stays-two f reducers capacity s k e q (k.held actor q t.0).below t.1,
+        );
         idle = λ at_zero. ap s.taken at_zero ∙ k.idle;
         justified = λ x is. justified f reducers s e x ok is;
       }

@@ -20,13 +20,19 @@ or-assoc true b c = refl
 or-assoc false b c = refl
 
 -- one more entry
-pub legal-push : (f : Cnf) (reducers capacity : ℕ) (d : List Entry) (e : Entry) (s : State) → IsLegalFrom f reducers capacity s d → Allowed f reducers (state_from f reducers capacity s d) e → IsLegalFrom f reducers capacity s (d ++ e ∷ [])
+pub legal-push : (f : Cnf) (reducers capacity : ℕ) (d : List Entry) (e : Entry) (s : State)
+    → IsLegalFrom f reducers capacity s d → Allowed f reducers (state_from f reducers capacity s d) e
+    → IsLegalFrom f reducers capacity s (d ++ e ∷ [])
 legal-push f reducers capacity [] e s legal ok = (ok, tt)
-legal-push f reducers capacity (x ∷ xs) e s legal ok = (legal.0, legal-push f reducers capacity xs e (after f reducers capacity s x) legal.1 ok)
+legal-push f reducers capacity (x ∷ xs) e s legal ok =
+    (legal.0, legal-push f reducers capacity xs e (after f reducers capacity s x) legal.1 ok)
 
-pub lefts-push : (f : Cnf) (reducers capacity : ℕ) (d : List Entry) (e : Entry) (s : State) → lefts_from f reducers capacity s (d ++ e ∷ []) ≡ lefts_from f reducers capacity s d ++ left_ids f reducers capacity (state_from f reducers capacity s d) e ∷ []
+pub lefts-push : (f : Cnf) (reducers capacity : ℕ) (d : List Entry) (e : Entry) (s : State)
+    → lefts_from f reducers capacity s (d ++ e ∷ []) ≡ lefts_from f reducers capacity s d
+    ++ left_ids f reducers capacity (state_from f reducers capacity s d) e ∷ []
 lefts-push f reducers capacity [] e s = refl
-lefts-push f reducers capacity (x ∷ xs) e s = ap (λ (ls : List (List ℕ)). left_ids f reducers capacity s x ∷ ls) (lefts-push f reducers capacity xs e (after f reducers capacity s x))
+lefts-push f reducers capacity (x ∷ xs) e s = ap (λ (ls : List (List ℕ)). left_ids f reducers capacity s x ∷ ls)
+    (lefts-push f reducers capacity xs e (after f reducers capacity s x))
 
 -- a state is closed where the history is
 pub closed-is : (f : Cnf) (reducers capacity : ℕ) (d : List Entry) (s : State)

@@ -39,7 +39,8 @@ pub fits-push : (Fits : List Entry → Entry → Type 0) (d : List Entry) (e : E
     → EachFits Fits (d ++ e ∷ []) ↔ (EachFits Fits d × Fits d e)
 fits-push Fits d x = (
   λ all. (
-    λ before e later same. all before e (later ++ x ∷ []) (ap (λ z. z ++ x ∷ []) same ∙ append_assoc before (e ∷ later) (x ∷ [])),
+    λ before e later same. all before e (later ++ x ∷ []) (ap (λ z. z ++ x ∷ []) same
+        ∙ append_assoc before (e ∷ later) (x ∷ [])),
     all d x [] refl,
   ),
   λ both before e later same. pick both.0 both.1 before e (splits-at d x before e later same),
@@ -50,17 +51,20 @@ fits-push Fits d x = (
     pick all last before e (earlier rest same) = all before e rest same
 
 -- what holds of all entries holds of one
-pub all-at : (P : Entry → Type 0) (before : List Entry) (e : Entry) (later : List Entry) → All P (before ++ e ∷ later) → P e
+pub all-at : (P : Entry → Type 0) (before : List Entry) (e : Entry) (later : List Entry) → All P (before ++ e ∷ later)
+    → P e
 all-at P [] e later all = All-head P e later all
 all-at P (b ∷ bs) e later all = all-at P bs e later (All-tail P b (bs ++ e ∷ later) all)
 
 -- and of those of the front
 pub all-front : (P : Entry → Type 0) (d es : List Entry) → All P (d ++ es) → All P d
 all-front P [] es all = All-nil P
-all-front P (x ∷ xs) es all = All-cons P x xs (All-head P x (xs ++ es) all) (all-front P xs es (All-tail P x (xs ++ es) all))
+all-front P (x ∷ xs) es all = All-cons P x xs (All-head P x (xs ++ es) all)
+    (all-front P xs es (All-tail P x (xs ++ es) all))
 
 -- where each entry fits whatever stands before it
-pub fits-all : (P : Entry → Type 0) (Fits : List Entry → Entry → Type 0) → ((before : List Entry) (e : Entry) → P e → Fits before e)
+pub fits-all : (P : Entry → Type 0) (Fits : List Entry → Entry → Type 0)
+    → ((before : List Entry) (e : Entry) → P e → Fits before e)
     → (d : List Entry) → All P d → EachFits Fits d
 fits-all P Fits fit d all before e later same = fit before e (all-at P before e later (subst (All P) same all))
 

@@ -19,7 +19,8 @@ use Rattle.gr_diary.proofs.Looks.{Looks, formula_look, initial-looks, look_after
 -- the clause `3 4` has no clause of the formula in it
 apart : All (λ c. ¬ IsSubclause c (plus 3 ∷ plus 4 ∷ [])) chain.clauses
 apart =
-    All-cons Apart (plus 1 ∷ []) ((minus 1 ∷ plus 2 ∷ []) ∷ (plus 3 ∷ plus 4 ∷ minus 2 ∷ []) ∷ []) (λ part. cc (part (plus 1) refl))
+    All-cons Apart (plus 1 ∷ []) ((minus 1 ∷ plus 2 ∷ []) ∷ (plus 3 ∷ plus 4 ∷ minus 2 ∷ []) ∷ [])
+    (λ part. cc (part (plus 1) refl))
     (All-cons Apart (minus 1 ∷ plus 2 ∷ []) ((plus 3 ∷ plus 4 ∷ minus 2 ∷ []) ∷ []) (λ part. cc (part (minus 1) refl))
     (All-cons Apart (plus 3 ∷ plus 4 ∷ minus 2 ∷ []) [] (λ part. cc (part (minus 2) refl)) (All-nil Apart)))
   where
@@ -30,10 +31,13 @@ apart =
 fresh-first : (before : List Entry) → (state_of chain 1 2 before).held 0 ≡ [] → IsFresh chain 1 2 before offer
 fresh-first before idle some = (
   apart,
-  λ id c got. absurd (let none = ap (λ ids. if has id ids then (Rattle.gr_diary.specs.Histories.part_after chain 1 2 before 0).cites id else None) idle in cc (none, got)),
+  λ id c got. absurd (let none =
+      ap (λ ids. if has id ids then (Rattle.gr_diary.specs.Histories.part_after chain 1 2 before 0).cites id
+      else None) idle in cc (none, got)),
 )
 
-offered-looks : Looks (after chain 1 2 (initial_state chain) offer) (look_after (formula_look chain) 4 (addition_of offer) [])
+offered-looks : Looks (after chain 1 2 (initial_state chain) offer)
+    (look_after (formula_look chain) 4 (addition_of offer) [])
 offered-looks = after-looks chain 1 2 (initial_state chain) (formula_look chain) offer [] (initial-looks chain) refl
 
 held-then : clauses_held_by chain 1 2 (offer ∷ []) 0 4 ≡ Some (plus 3 ∷ plus 4 ∷ [])
@@ -43,8 +47,10 @@ pub nothing-is-learnt-twice : NothingIsLearntTwice
 nothing-is-learnt-twice = (
   one,
   λ all. (all (offer ∷ []) offer [] refl (λ e. cc e)).1 4 (plus 3 ∷ plus 4 ∷ []) held-then (λ l m. m),
-  (fits-push (IsFresh chain 1 2) (offer ∷ Forget 0 (4 ∷ []) ∷ []) offer).1
-      ((fits-push (IsFresh chain 1 2) (offer ∷ []) (Forget 0 (4 ∷ []))).1 (one, tt), fresh-first (offer ∷ Forget 0 (4 ∷ []) ∷ []) refl),
+  (fits-push (IsFresh chain 1 2) (offer ∷ Forget 0 (4 ∷ []) ∷ []) offer).1 (
+    (fits-push (IsFresh chain 1 2) (offer ∷ []) (Forget 0 (4 ∷ []))).1 (one, tt),
+    fresh-first (offer ∷ Forget 0 (4 ∷ []) ∷ []) refl,
+  ),
   λ all. All-head Old (minus 1 ∷ plus 2 ∷ []) ((plus 3 ∷ plus 4 ∷ minus 2 ∷ []) ∷ [])
       (All-tail Old (plus 1 ∷ []) ((minus 1 ∷ plus 2 ∷ []) ∷ (plus 3 ∷ plus 4 ∷ minus 2 ∷ []) ∷ [])
       (all [] (Learn (plus 4 ∷ plus 2 ∷ minus 1 ∷ []) [] 1 false) [] refl (λ e. cc e)).0) within,

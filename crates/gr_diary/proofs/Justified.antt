@@ -18,8 +18,7 @@ is_normal (l ∷ ls) = list_all (λ q. not (nat_eq q.index l.index)) ls && is_no
 normal-by : (c : List Literal) → is_normal c ≡ true → IsNormal c
 normal-by [] passed = tt
 normal-by (l ∷ ls) passed =
-    let parts = and_parts (list_all (λ q. not (nat_eq q.index l.index)) ls) (is_normal ls) passed in
-    (
+    let parts = and_parts (list_all (λ q. not (nat_eq q.index l.index)) ls) (is_normal ls) passed in (
       members-each Other ls (all-by (λ q. not (nat_eq q.index l.index)) Other other ls parts.0),
       normal-by ls parts.1,
     )
@@ -28,7 +27,8 @@ normal-by (l ∷ ls) passed =
     Other q = q.index ≢ l.index
 
     other : (q : Literal) → not (nat_eq q.index l.index) ≡ true → Other q
-    other q passed same = let one : nat_eq q.index l.index ≡ true = grind (arith, nat_tests) in let z = sym (ap not one) ∙ passed in cc z
+    other q passed same = let one : nat_eq q.index l.index ≡ true = grind (arith, nat_tests) in
+        let z = sym (ap not one) ∙ passed in cc z
 
 pub justified-by : (f : Cnf) (part : Part) (c : List Literal) (hints : List ℕ) → is_normal c ≡ true
     → list_all (λ l. nat_lt l.index f.vars) c ≡ true → list_all (λ id. is_some (part.cites id)) hints ≡ true

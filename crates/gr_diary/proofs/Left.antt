@@ -25,52 +25,66 @@ pub passing-first : (test : ℕ → Bool) (count first q : ℕ) → has q (passi
 passing-first test zero first q h = absurd (cc)
 passing-first test (suc count) first q h = pick (test first) h (passing-first test count (first + 1) q)
   where
-    pick : (b : Bool) → has q (if b then first ∷ passing test (first + 1) count else passing test (first + 1) count) ≡ true → (has q (passing test (first + 1) count) ≡ true → first + 1 ≤ q) → first ≤ q
-    pick true h rest = ⊎_elim (λ u. let z = eqb-true q first u in omega arith) (λ u. let z = rest u in omega arith) (or_cases (nat_eq q first) (has q (passing test (first + 1) count)) h)
+    pick : (b : Bool) → has q (if b then first ∷ passing test (first + 1) count else passing test (first + 1) count)
+        ≡ true → (has q (passing test (first + 1) count) ≡ true → first + 1 ≤ q) → first ≤ q
+    pick true h rest = ⊎_elim (λ u. let z = eqb-true q first u in omega arith) (λ u. let z = rest u in omega arith)
+        (or_cases (nat_eq q first) (has q (passing test (first + 1) count)) h)
     pick false h rest = let z = rest h in omega arith
 
 pub passing-test : (test : ℕ → Bool) (count first q : ℕ) → has q (passing test first count) ≡ true → test q ≡ true
 passing-test test zero first q h = absurd (cc)
 passing-test test (suc count) first q h = pick (test first) refl h (passing-test test count (first + 1) q)
   where
-    pick : (b : Bool) → test first ≡ b → has q (if b then first ∷ passing test (first + 1) count else passing test (first + 1) count) ≡ true → (has q (passing test (first + 1) count) ≡ true → test q ≡ true) → test q ≡ true
-    pick true is h rest = ⊎_elim (λ u. ap test (eqb-true q first u) ∙ is) rest (or_cases (nat_eq q first) (has q (passing test (first + 1) count)) h)
+    pick : (b : Bool) → test first ≡ b
+        → has q (if b then first ∷ passing test (first + 1) count else passing test (first + 1) count) ≡ true
+        → (has q (passing test (first + 1) count) ≡ true → test q ≡ true) → test q ≡ true
+    pick true is h rest = ⊎_elim (λ u. ap test (eqb-true q first u) ∙ is) rest
+        (or_cases (nat_eq q first) (has q (passing test (first + 1) count)) h)
     pick false is h rest = rest h
 
-pub passing-in : (test : ℕ → Bool) (count first q : ℕ) → first ≤ q → q < first + count → test q ≡ true → has q (passing test first count) ≡ true
+pub passing-in : (test : ℕ → Bool) (count first q : ℕ) → first ≤ q → q < first + count → test q ≡ true
+    → has q (passing test first count) ≡ true
 passing-in test zero first q low high is = absurd (omega arith)
-passing-in test (suc count) first q low high is = pick (test first) refl (nat_eq q first) refl (passing-in test count (first + 1) q)
+passing-in test (suc count) first q low high is = pick (test first) refl (nat_eq q first) refl
+    (passing-in test count (first + 1) q)
   where
-    pick : (b : Bool) → test first ≡ b → (same : Bool) → nat_eq q first ≡ same → (first + 1 ≤ q → q < first + 1 + count → test q ≡ true → has q (passing test (first + 1) count) ≡ true) → has q (if b then first ∷ passing test (first + 1) count else passing test (first + 1) count) ≡ true
+    pick : (b : Bool) → test first ≡ b → (same : Bool) → nat_eq q first ≡ same
+        → (first + 1 ≤ q → q < first + 1 + count → test q ≡ true → has q (passing test (first + 1) count) ≡ true)
+        → has q (if b then first ∷ passing test (first + 1) count else passing test (first + 1) count) ≡ true
     pick true here true same rest = or-first (nat_eq q first) (has q (passing test (first + 1) count)) same
-    pick true here false same rest = or-second (nat_eq q first) (has q (passing test (first + 1) count)) (rest (grind (arith, nat_tests)) (omega arith) is)
+    pick true here false same rest = or-second (nat_eq q first) (has q (passing test (first + 1) count))
+        (rest (grind (arith, nat_tests)) (omega arith) is)
     pick false here true same rest = not-both (test q) is (ap test (eqb-true q first same) ∙ here)
     pick false here false same rest = rest (grind (arith, nat_tests)) (omega arith) is
 
 pub is_held-at : (held : ℕ → List ℕ) (n a q : ℕ) → a ≤ n → has q (held a) ≡ true → is_held held n q ≡ true
 is_held-at held zero a q le h = let z : a ≡ 0 = omega arith in subst (λ b. has q (held b) ≡ true) z h
-is_held-at held (suc n) a q le h = ⊎_elim (λ lt. or-second (has q (held (suc n))) (is_held held n q) (is_held-at held n a q (omega arith) h))
-    (λ ge. let z : a ≡ suc n = omega arith in or-first (has q (held (suc n))) (is_held held n q) (subst (λ b. has q (held b) ≡ true) z h)) (cases_lt a (suc n))
+is_held-at held (suc n) a q le h =
+    ⊎_elim (λ lt. or-second (has q (held (suc n))) (is_held held n q) (is_held-at held n a q (omega arith) h))
+    (λ ge. let z : a ≡ suc n = omega arith in or-first (has q (held (suc n))) (is_held held n q)
+    (subst (λ b. has q (held b) ≡ true) z h)) (cases_lt a (suc n))
 
 module _ (f : Cnf) (reducers : ℕ) (s : State) (k : IsInOrder f reducers s) where
   pub held-holder : (a q : ℕ) → has q (s.held a) ≡ true → has_holder reducers s q ≡ true
   held-holder a q h = ⊎_elim
-      (λ (lt : reducers < a). absurd (let z = k.beyond a lt in let y : has q [] ≡ true = subst (λ xs. has q xs ≡ true) z h in cc))
-      (λ (le : a ≤ reducers). or-first (is_held s.held reducers q) (in_work q s.work || in_results q s.results) (is_held-at s.held reducers a q le h)) (cases_lt reducers a)
+      (λ (lt : reducers < a). absurd (let z = k.beyond a lt in let y : has q [] ≡ true =
+      subst (λ xs. has q xs ≡ true) z h in cc))
+      (λ (le : a ≤ reducers). or-first (is_held s.held reducers q) (in_work q s.work || in_results q s.results)
+      (is_held-at s.held reducers a q le h)) (cases_lt reducers a)
 
   pub work-holder : (q : ℕ) → in_work q s.work ≡ true → has_holder reducers s q ≡ true
-  work-holder q h = or-second (is_held s.held reducers q) (in_work q s.work || in_results q s.results) (or-first (in_work q s.work) (in_results q s.results) h)
+  work-holder q h = or-second (is_held s.held reducers q) (in_work q s.work || in_results q s.results)
+      (or-first (in_work q s.work) (in_results q s.results) h)
 
   pub results-holder : (q : ℕ) → in_results q s.results ≡ true → has_holder reducers s q ≡ true
-  results-holder q h = or-second (is_held s.held reducers q) (in_work q s.work || in_results q s.results) (or-second (in_work q s.work) (in_results q s.results) h)
+  results-holder q h = or-second (is_held s.held reducers q) (in_work q s.work || in_results q s.results)
+      (or-second (in_work q s.work) (in_results q s.results) h)
 
   -- ids that nobody holds leave
   module _ (ids : List ℕ) (free : (q : ℕ) → has q ids ≡ true → has_holder reducers s q ≡ false) where
-    shrunk : State
-    shrunk = record s { live = without s.live ids }
-
     pub held-stays : (q : ℕ) → has_holder reducers s q ≡ true → map.get (without s.live ids) q ≡ map.get s.live q
-    held-stays q h = get-without ids s.live q ∙ ap (λ b. if b then None else map.get s.live q) (false_from_ne_true (has q ids) (λ u. not-both (has_holder reducers s q) h (free q u)))
+    held-stays q h = get-without ids s.live q ∙ ap (λ b. if b then None else map.get s.live q)
+        (false_from_ne_true (has q ids) (λ u. not-both (has_holder reducers s q) h (free q u)))
 
     was-live : (q : ℕ) (c : List Literal) → map.get (without s.live ids) q ≡ Some c → map.get s.live q ≡ Some c
     was-live q c e = pick (has q ids) (sym (get-without ids s.live q) ∙ e)
@@ -86,7 +100,8 @@ module _ (f : Cnf) (reducers : ℕ) (s : State) (k : IsInOrder f reducers s) whe
         pick true e = absurd (cc)
         pick false e = e
 
-    learnt-stays : (q : ℕ) → has_holder reducers s q ≡ true → IsLearnt f s q → IsLearnt f (record s { live = without s.live ids }) q
+    learnt-stays : (q : ℕ) → has_holder reducers s q ≡ true → IsLearnt f s q
+        → IsLearnt f (record s { live = without s.live ids }) q
     learnt-stays q h l = record { above = l.above; below = l.below; live = ap is_some (held-stays q h) ∙ l.live }
 
     two-stays : (q : ℕ) → HasTwo s q → HasTwo (record s { live = without s.live ids }) q
@@ -108,18 +123,28 @@ module _ (f : Cnf) (reducers : ℕ) (s : State) (k : IsInOrder f reducers s) whe
       work_free = k.work_free;
       results_free = k.results_free;
       normal = λ q c lt got. k.normal q c lt (was-live q c got);
-      old = All-weaker (OldIsFine f s) (OldIsFine f (record s { live = without s.live ids })) (λ r fine id is. let t = fine id is in (t.0, t.1, two-stays id t.2)) s.results k.old;
+      old = All-weaker (OldIsFine f s) (OldIsFine f (record s { live = without s.live ids }))
+          (λ r fine id is. let t = fine id is in (t.0, t.1, two-stays id t.2)) s.results k.old;
     }
 
-pub left-free : (f : Cnf) (reducers capacity : ℕ) (s : State) (e : Entry) (q : ℕ) → has q (left_ids f reducers capacity s e) ≡ true → (length f.clauses < q) × (has_holder reducers (moved capacity s e) q ≡ false)
+pub left-free : (f : Cnf) (reducers capacity : ℕ) (s : State) (e : Entry) (q : ℕ)
+    → has q (left_ids f reducers capacity s e) ≡ true → (length f.clauses < q)
+    × (has_holder reducers (moved capacity s e) q ≡ false)
 left-free f reducers capacity s e q h = pick (adds_empty e) h
   where
-    pick : (b : Bool) → has q (if b then [] else leaving f reducers (moved capacity s e)) ≡ true → (length f.clauses < q) × (has_holder reducers (moved capacity s e) q ≡ false)
+    pick : (b : Bool) → has q (if b then [] else leaving f reducers (moved capacity s e)) ≡ true
+        → (length f.clauses < q) × (has_holder reducers (moved capacity s e) q ≡ false)
     pick true h = absurd (cc)
     pick false h =
-        let first = passing-first (is_left reducers (moved capacity s e)) ((moved capacity s e).next - (length f.clauses + 1)) (length f.clauses + 1) q h in
-        let t = passing-test (is_left reducers (moved capacity s e)) ((moved capacity s e).next - (length f.clauses + 1)) (length f.clauses + 1) q h in
-        (omega arith, not-true (has_holder reducers (moved capacity s e) q) (and_parts (map.contains_key (moved capacity s e).live q) (not (has_holder reducers (moved capacity s e) q)) t).1)
+        let first = passing-first (is_left reducers (moved capacity s e))
+        ((moved capacity s e).next - (length f.clauses + 1)) (length f.clauses + 1) q h in
+        let t = passing-test (is_left reducers (moved capacity s e))
+        ((moved capacity s e).next - (length f.clauses + 1)) (length f.clauses + 1) q h in (
+          omega arith,
+          not-true (has_holder reducers (moved capacity s e) q)
+              (and_parts (map.contains_key (moved capacity s e).live q)
+              (not (has_holder reducers (moved capacity s e) q)) t).1,
+        )
 
 -- who is refuted is closed
 ended-after : (c r k a : Bool) → (c ≡ false → r ≡ false) → (c || (k || a)) ≡ false → (r || a) ≡ false
@@ -129,12 +154,16 @@ ended-after false r false true ended still = absurd (cc)
 ended-after false r false false ended still = ap (λ b. b || false) (ended refl)
 
 -- an entry keeps the invariant
-pub kept : (f : Cnf) (reducers capacity : ℕ) (s : State) (e : Entry) → IsKept f reducers s → Allowed f reducers s e → IsKept f reducers (after f reducers capacity s e)
+pub kept : (f : Cnf) (reducers capacity : ℕ) (s : State) (e : Entry) → IsKept f reducers s → Allowed f reducers s e
+    → IsKept f reducers (after f reducers capacity s e)
 kept f reducers capacity s e k ok = record {
   order = order-stays f reducers (moved capacity s e) now ids (λ q h. (left-free f reducers capacity s e q h).1);
   ended = λ still. ended-after s.closed s.refuted (is_close e) (adds_empty e) k.ended still;
   holders = λ open' q above live. holders open' q above live;
-  inputs = λ q le. get-without ids (moved capacity s e).live q ∙ (ap (λ b. if b then None else map.get (moved capacity s e).live q) (false_from_ne_true (has q ids) (λ u. let t = (left-free f reducers capacity s e q u).0 in absurd (omega arith)))
+  inputs = λ q le. get-without ids (moved capacity s e).live q
+      ∙ (ap (λ b. if b then None else map.get (moved capacity s e).live q)
+      (false_from_ne_true (has q ids) (λ u. let t = (left-free f reducers capacity s e q u).0 in
+      absurd (omega arith)))
       ∙ (not-new (addition_of e) q (let t = k.order.next in omega arith) ∙ k.inputs q le));
   implied = λ a meets. after-MeetsLive f reducers capacity s e a ok (k.implied a meets);
 }
@@ -147,28 +176,45 @@ kept f reducers capacity s e k ok = record {
 
     not-new : (o : Option Addition) (q : ℕ) → q < s.next → map.get (live_grown s o) q ≡ map.get s.live q
     not-new None q lt = refl
-    not-new (Some a) q lt = let other : nat_eq q s.next ≡ false = grind (arith, nat_tests) in get-insert_at s.live s.next a.clause q ∙ rw other refl
+    not-new (Some a) q lt = let other : nat_eq q s.next ≡ false = grind (arith, nat_tests) in
+        get-insert_at s.live s.next a.clause q ∙ rw other refl
 
-    holders : (s.refuted || adds_empty e) ≡ false → (q : ℕ) → length f.clauses < q → map.contains_key (without (moved capacity s e).live ids) q ≡ true → has_holder reducers (moved capacity s e) q ≡ true
+    holders : (s.refuted || adds_empty e) ≡ false → (q : ℕ) → length f.clauses < q
+        → map.contains_key (without (moved capacity s e).live ids) q ≡ true
+        → has_holder reducers (moved capacity s e) q ≡ true
     holders unrefuted q above live = true_from_ne_false (has_holder reducers (moved capacity s e) q) (λ free.
-        let there : map.contains_key (moved capacity s e).live q ≡ true = was-there f reducers (moved capacity s e) now ids (λ q h. (left-free f reducers capacity s e q h).1) q live in
+        let there : map.contains_key (moved capacity s e).live q ≡ true =
+        was-there f reducers (moved capacity s e) now ids (λ q h. (left-free f reducers capacity s e q h).1) q
+        live in
         let below : q < (moved capacity s e).next = now.below q there in
-        let out : has q ids ≡ true = ap (λ b. has q (if b then [] else leaving f reducers (moved capacity s e))) (or_parts s.refuted (adds_empty e) unrefuted).1
-        ∙ passing-in (is_left reducers (moved capacity s e)) ((moved capacity s e).next - (length f.clauses + 1)) (length f.clauses + 1) q (omega arith) (omega arith) (and_from (map.contains_key (moved capacity s e).live q) (not (has_holder reducers (moved capacity s e) q)) there (ap not free)) in
-        let gone : map.contains_key (without (moved capacity s e).live ids) q ≡ false = ap is_some (get-without ids (moved capacity s e).live q ∙ ap (λ b. if b then None else map.get (moved capacity s e).live q) out) in
+        let out : has q ids ≡ true = ap (λ b. has q (if b then [] else leaving f reducers (moved capacity s e)))
+        (or_parts s.refuted (adds_empty e) unrefuted).1
+        ∙ passing-in (is_left reducers (moved capacity s e)) ((moved capacity s e).next - (length f.clauses + 1))
+        (length f.clauses + 1) q (omega arith) (omega arith)
+        (and_from (map.contains_key (moved capacity s e).live q)
+        (not (has_holder reducers (moved capacity s e) q)) there (ap not free)) in
+        let gone : map.contains_key (without (moved capacity s e).live ids) q ≡ false =
+        ap is_some (get-without ids (moved capacity s e).live q
+        ∙ ap (λ b. if b then None else map.get (moved capacity s e).live q) out) in
         not-both (map.contains_key (without (moved capacity s e).live ids) q) live gone)
 
 -- and so does a legal history
-pub all-kept : (f : Cnf) (reducers capacity : ℕ) (d : List Entry) (s : State) → IsKept f reducers s → IsLegalFrom f reducers capacity s d → IsKept f reducers (state_from f reducers capacity s d)
+pub all-kept : (f : Cnf) (reducers capacity : ℕ) (d : List Entry) (s : State) → IsKept f reducers s
+    → IsLegalFrom f reducers capacity s d → IsKept f reducers (state_from f reducers capacity s d)
 all-kept f reducers capacity [] s k legal = k
-all-kept f reducers capacity (e ∷ es) s k legal = all-kept f reducers capacity es (after f reducers capacity s e) (kept f reducers capacity s e k legal.0) legal.1
+all-kept f reducers capacity (e ∷ es) s k legal = all-kept f reducers capacity es (after f reducers capacity s e)
+    (kept f reducers capacity s e k legal.0) legal.1
 
 -- the input's ids are those up to the number of clauses
-inputs-below : (cs : List (List Literal)) (live : Clauses) (id q : ℕ) → map.contains_key (with_clauses live id cs) q ≡ true → ((map.contains_key live q ≡ true) ⊎ (q < id + length cs))
+inputs-below : (cs : List (List Literal)) (live : Clauses) (id q : ℕ) → map.contains_key (with_clauses live id cs) q
+    ≡ true → ((map.contains_key live q ≡ true) ⊎ (q < id + length cs))
 inputs-below [] live id q h = inl h
-inputs-below (c ∷ cs) live id q h = ⊎_elim (λ u. pick (nat_eq q id) refl (sym (ap is_some (get-insert_at live id c q)) ∙ u)) (λ u. inr (omega arith)) (inputs-below cs (map.insert live id c) (id + 1) q h)
+inputs-below (c ∷ cs) live id q h =
+    ⊎_elim (λ u. pick (nat_eq q id) refl (sym (ap is_some (get-insert_at live id c q)) ∙ u)) (λ u. inr (omega arith))
+    (inputs-below cs (map.insert live id c) (id + 1) q h)
   where
-    pick : (b : Bool) → nat_eq q id ≡ b → is_some (if b then Some c else map.get live q) ≡ true → (map.contains_key live q ≡ true) ⊎ (q < id + length (c ∷ cs))
+    pick : (b : Bool) → nat_eq q id ≡ b → is_some (if b then Some c else map.get live q) ≡ true
+        → (map.contains_key live q ≡ true) ⊎ (q < id + length (c ∷ cs))
     pick true is u = let z = eqb-true q id is in inr (omega arith)
     pick false is u = inl u
 
@@ -198,4 +244,6 @@ begins-kept f reducers = record {
 }
   where
     below : (q : ℕ) → map.contains_key (with_clauses map.empty 1 f.clauses) q ≡ true → q < length f.clauses + 1
-    below q h = ⊎_elim (λ (u : map.contains_key (map.empty {X = List Literal}) q ≡ true). absurd (let z = ap is_some (map.get-empty {X = List Literal} Rattle.std.specs.Ordering.nat_cmp q) in cc)) (λ u. omega arith) (inputs-below f.clauses map.empty 1 q h)
+    below q h = ⊎_elim (λ (u : map.contains_key (map.empty {X = List Literal}) q ≡ true). absurd
+        (let z = ap is_some (map.get-empty {X = List Literal} Rattle.std.specs.Ordering.nat_cmp q) in cc))
+        (λ u. omega arith) (inputs-below f.clauses map.empty 1 q h)

@@ -24,11 +24,15 @@ use Rattle.gr_diary.specs.Histories.{IsLegalFrom, IsLegal, AddsEmptyClause, line
 use Rattle.gr_diary.specs.Laws.{NoLineIsRefused}
 
 -- numbers that pass and that are live can be deleted together
-passing-missing : (test : ℕ → Bool) (count first : ℕ) (live : Clauses) → ((q : ℕ) → first ≤ q → test q ≡ true → map.contains_key live q ≡ true) → missing live (passing test first count) ≡ None
+passing-missing : (test : ℕ → Bool) (count first : ℕ) (live : Clauses)
+    → ((q : ℕ) → first ≤ q → test q ≡ true → map.contains_key live q ≡ true) → missing live (passing test first count)
+    ≡ None
 passing-missing test zero first live there = refl
 passing-missing test (suc count) first live there =
-    elim (test first) as (λ b. test first ≡ b → missing live (if b then first ∷ passing test (first + 1) count else passing test (first + 1) count) ≡ None) [
-      | true ↦ λ is. rw (there first (omega arith) is) (passing-missing test count (first + 1) (map.remove live first) (λ q le passes.
+    elim (test first) as (λ b. test first ≡ b
+    → missing live (if b then first ∷ passing test (first + 1) count else passing test (first + 1) count) ≡ None) [
+      | true ↦ λ is. rw (there first (omega arith) is)
+          (passing-missing test count (first + 1) (map.remove live first) (λ q le passes.
           let other : nat_eq q first ≡ false = grind (arith, nat_tests) in
           ap is_some (get-remove_at live first q) ∙ rw other (there q (omega arith) passes)))
       | false ↦ λ _. passing-missing test count (first + 1) live (λ q le. there q (omega arith))
@@ -37,20 +41,28 @@ passing-missing test (suc count) first live there =
 left-live : (reducers : ℕ) (s : State) (q : ℕ) → is_left reducers s q ≡ true → map.contains_key s.live q ≡ true
 left-live reducers s q e = (and_parts (map.contains_key s.live q) (not (has_holder reducers s q)) e).0
 
-left_ids-missing : (f : Cnf) (reducers capacity : ℕ) (s : State) (e : Entry) → missing (moved capacity s e).live (left_ids f reducers capacity s e) ≡ None
+left_ids-missing : (f : Cnf) (reducers capacity : ℕ) (s : State) (e : Entry)
+    → missing (moved capacity s e).live (left_ids f reducers capacity s e) ≡ None
 left_ids-missing f reducers capacity s e =
-    elim (adds_empty e) as (λ b. missing (moved capacity s e).live (if b then [] else leaving f reducers (moved capacity s e)) ≡ None) [
+    elim (adds_empty e) as (λ b. missing (moved capacity s e).live
+    (if b then [] else leaving f reducers (moved capacity s e)) ≡ None) [
       | true ↦ refl
-      | false ↦ passing-missing (is_left reducers (moved capacity s e)) ((moved capacity s e).next - (length f.clauses + 1)) (length f.clauses + 1) (moved capacity s e).live (λ q le. left-live reducers (moved capacity s e) q)
+      | false ↦ passing-missing (is_left reducers (moved capacity s e))
+          ((moved capacity s e).next - (length f.clauses + 1)) (length f.clauses + 1) (moved capacity s e).live
+          (λ q le. left-live reducers (moved capacity s e) q)
     ]
 
 -- the clause that a lawful entry adds is justified
-pub justified : (f : Cnf) (reducers : ℕ) (s : State) (e : Entry) (a : Addition) → Allowed f reducers s e → addition_of e ≡ Some a → IsJustified f (part_of f s (actor_of e)) a.clause a.hints
-justified f reducers s (Learn c hints lbd offered) a ok is = let j = ok.able.0 in subst (λ (x : Addition). IsJustified f (part_of f s 0) x.clause x.hints) (cc is) j
-justified f reducers s (entry.Unit actor lit hints) a ok is = let j = ok.able.1 in subst (λ (x : Addition). IsJustified f (part_of f s actor) x.clause x.hints) (cc is) j
+pub justified : (f : Cnf) (reducers : ℕ) (s : State) (e : Entry) (a : Addition) → Allowed f reducers s e
+    → addition_of e ≡ Some a → IsJustified f (part_of f s (actor_of e)) a.clause a.hints
+justified f reducers s (Learn c hints lbd offered) a ok is = let j = ok.able.0 in
+    subst (λ (x : Addition). IsJustified f (part_of f s 0) x.clause x.hints) (cc is) j
+justified f reducers s (entry.Unit actor lit hints) a ok is = let j = ok.able.1 in
+    subst (λ (x : Addition). IsJustified f (part_of f s actor) x.clause x.hints) (cc is) j
 justified f reducers s (Take actor) a ok is = absurd (cc)
 justified f reducers s (Return actor Same) a ok is = absurd (cc)
-justified f reducers s (Return actor (Shorter c hints)) a ok is = let j = ok.able.7.1 in subst (λ (x : Addition). IsJustified f (part_of f s actor) x.clause x.hints) (cc is) j
+justified f reducers s (Return actor (Shorter c hints)) a ok is = let j = ok.able.7.1 in
+    subst (λ (x : Addition). IsJustified f (part_of f s actor) x.clause x.hints) (cc is) j
 justified f reducers s Import a ok is = absurd (cc)
 justified f reducers s Drained a ok is = absurd (cc)
 justified f reducers s (Forget actor ids) a ok is = absurd (cc)
@@ -89,13 +101,22 @@ or-false : (b : Bool) → b ≡ (b || false)
 or-false true = refl
 or-false false = refl
 
-adds : (f : Cnf) (s : State) (l : LogState) (actor : ℕ) (o : Option Addition) (m : ℕ) → Follows f s l → ((a : Addition) → o ≡ Some a → IsJustified f (part_of f s actor) a.clause a.hints) → Adds f s l o m
-adds f s l actor None m follows ok = record { fine = refl; vars = follows.vars; last = follows.last; live = follows.live; refuted = or-false l.refuted }
+adds : (f : Cnf) (s : State) (l : LogState) (actor : ℕ) (o : Option Addition) (m : ℕ) → Follows f s l
+    → ((a : Addition) → o ≡ Some a → IsJustified f (part_of f s actor) a.clause a.hints) → Adds f s l o m
+adds f s l actor None m follows ok = record {
+  fine = refl;
+  vars = follows.vars;
+  last = follows.last;
+  live = follows.live;
+  refuted = or-false l.refuted;
+}
 adds f s l actor (Some a) m follows ok =
     let j = ok a refl in
     let later : nat_le s.next l.last ≡ false = let h = follows.last in grind (arith, nat_tests) in
     let below : is_var_above l.vars a.clause ≡ false = rw follows.vars (none-above f.vars a.clause j.within) in
-    let steps : rup (map.get l.live) a.clause a.hints ≡ Accepted = rw follows.live (rup-more (cited_by f s actor) (map.get s.live) (cites-live f s actor) a.clause a.hints j.accepted) in
+    let steps : rup (map.get l.live) a.clause a.hints ≡ Accepted =
+    rw follows.live (rup-more (cited_by f s actor) (map.get s.live)
+    (cites-live f s actor) a.clause a.hints j.accepted) in
     record {
       fine = ap (λ c. first_cause m c None) (passes later below steps);
       vars = follows.vars;
@@ -104,7 +125,8 @@ adds f s l actor (Some a) m follows ok =
       refuted = refl;
     }
   where
-    passes : nat_le s.next l.last ≡ false → is_var_above l.vars a.clause ≡ false → rup (map.get l.live) a.clause a.hints ≡ Accepted → addition_cause l s.next a.clause a.hints ≡ None
+    passes : nat_le s.next l.last ≡ false → is_var_above l.vars a.clause ≡ false
+        → rup (map.get l.live) a.clause a.hints ≡ Accepted → addition_cause l s.next a.clause a.hints ≡ None
     passes later below steps = rw (later, below, steps) refl
 
 -- and the deletion line
@@ -117,7 +139,13 @@ record Deletes (l : LogState) (last : ℕ) (ids : List ℕ) (m : ℕ) : Type 0 w
 
 deletes : (l : LogState) (last : ℕ) (ids : List ℕ) (m : ℕ) → missing l.live ids ≡ None → Deletes l last ids m
 deletes l last [] m ok = record { fine = refl; vars = refl; same = refl; live = refl; refuted = refl }
-deletes l last (id ∷ ids) m ok = record { fine = ap (λ c. first_cause m c None) ok; vars = refl; same = refl; live = refl; refuted = refl }
+deletes l last (id ∷ ids) m ok = record {
+  fine = ap (λ c. first_cause m c None) ok;
+  vars = refl;
+  same = refl;
+  live = refl;
+  refuted = refl;
+}
 
 -- a lawful entry's lines, and the state after them
 record Steps (f : Cnf) (reducers capacity : ℕ) (s : State) (e : Entry) (l : LogState) : Type 0 where
@@ -125,14 +153,16 @@ record Steps (f : Cnf) (reducers capacity : ℕ) (s : State) (e : Entry) (l : Lo
   follows : Follows f (after f reducers capacity s e) (state_after l (lines_of_entry f reducers capacity s e))
   refuted : (state_after l (lines_of_entry f reducers capacity s e)).refuted ≡ (l.refuted || adds_empty e)
 
-steps : (f : Cnf) (reducers capacity : ℕ) (s : State) (e : Entry) (l : LogState) → Follows f s l → Allowed f reducers s e → Steps f reducers capacity s e l
+steps : (f : Cnf) (reducers capacity : ℕ) (s : State) (e : Entry) (l : LogState) → Follows f s l
+    → Allowed f reducers s e → Steps f reducers capacity s e l
 steps f reducers capacity s e l follows ok =
     let one : List Line = addition_lines s (addition_of e) in
     let ids : List ℕ = left_ids f reducers capacity s e in
     let last : ℕ = (moved capacity s e).next - 1 in
     let two : List Line = deletion_lines last ids in
     let mid : LogState = state_after l one in
-    let add : ((m : ℕ) → Adds f s l (addition_of e) m) = λ m. adds f s l (actor_of e) (addition_of e) m follows (λ a is. justified f reducers s e a ok is) in
+    let add : ((m : ℕ) → Adds f s l (addition_of e) m) = λ m. adds f s l (actor_of e) (addition_of e) m follows
+    (λ a is. justified f reducers s e a ok is) in
     let gone : missing mid.live ids ≡ None = rw (add 0).live (left_ids-missing f reducers capacity s e) in
     let del : ((m : ℕ) → Deletes mid last ids m) = λ m. deletes mid last ids m gone in
     let end : state_after l (one ++ two) ≡ state_after mid two = state_after-append one two l in
@@ -150,7 +180,8 @@ record Runs (f : Cnf) (reducers capacity : ℕ) (s : State) (d : List Entry) (l 
   fine : (m : ℕ) → refusal_from m l (lines_from f reducers capacity s d) ≡ None
   refuted : (state_after l (lines_from f reducers capacity s d)).refuted ≡ (l.refuted || list_any adds_empty d)
 
-runs : (f : Cnf) (reducers capacity : ℕ) (d : List Entry) (s : State) (l : LogState) → Follows f s l → IsLegalFrom f reducers capacity s d → Runs f reducers capacity s d l
+runs : (f : Cnf) (reducers capacity : ℕ) (d : List Entry) (s : State) (l : LogState) → Follows f s l
+    → IsLegalFrom f reducers capacity s d → Runs f reducers capacity s d l
 runs f reducers capacity [] s l follows legal = record { fine = λ m. refl; refuted = or-false l.refuted }
 runs f reducers capacity (e ∷ es) s l follows legal =
     let step = steps f reducers capacity s e l follows legal.0 in
@@ -159,7 +190,9 @@ runs f reducers capacity (e ∷ es) s l follows legal =
     let rest = runs f reducers capacity es next (state_after l one) step.follows legal.1 in
     record {
       fine = λ m. refusal-append one (lines_from f reducers capacity next es) m l (step.fine m) rest.fine;
-      refuted = ap (λ t. t.refuted) (state_after-append one (lines_from f reducers capacity next es) l) ∙ rest.refuted ∙ ap (λ (b : Bool). b || list_any adds_empty es) step.refuted ∙ or-assoc l.refuted (adds_empty e) (list_any adds_empty es);
+      refuted = ap (λ t. t.refuted) (state_after-append one (lines_from f reducers capacity next es) l) ∙ rest.refuted
+          ∙ ap (λ (b : Bool). b || list_any adds_empty es) step.refuted
+          ∙ or-assoc l.refuted (adds_empty e) (list_any adds_empty es);
     }
   where
     or-assoc : (a b c : Bool) → ((a || b) || c) ≡ (a || (b || c))
@@ -170,7 +203,8 @@ begins : (f : Cnf) → Follows f (initial_state f) (opening f)
 begins f = record { vars = refl; last = refl; live = refl }
 
 pub no-line-is-refused : NoLineIsRefused
-no-line-is-refused f reducers capacity d legal = (runs f reducers capacity d (initial_state f) (opening f) (begins f) legal).fine 1
+no-line-is-refused f reducers capacity d legal =
+    (runs f reducers capacity d (initial_state f) (opening f) (begins f) legal).fine 1
 
 pub refuted-is-accepted : (f : Cnf) (reducers capacity : ℕ) (d : List Entry) → IsLegal f reducers capacity d
     → AddsEmptyClause d → Accepts f (lines_of f reducers capacity d)

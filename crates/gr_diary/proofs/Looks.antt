@@ -53,14 +53,16 @@ grown-looks s look (Some a) same q =
 abbrev pub left_by : Cnf → ℕ → ℕ → State → Live → Entry → List ℕ
 left_by f reducers capacity s look e =
     if adds_empty e then []
-    else passing (λ q. is_some (look_grown look s.next (addition_of e) q) && not (has_holder reducers (moved capacity s e) q))
+    else passing (λ q. is_some (look_grown look s.next (addition_of e) q) && not
+    (has_holder reducers (moved capacity s e) q))
     (length f.clauses + 1) ((moved capacity s e).next - (length f.clauses + 1))
 
 left-is : (f : Cnf) (reducers capacity : ℕ) (s : State) (look : Live) (e : Entry) → Looks s look
     → left_ids f reducers capacity s e ≡ left_by f reducers capacity s look e
 left-is f reducers capacity s look e same i =
     if adds_empty e then []
-    else passing (λ q. is_some (grown-looks s look (addition_of e) same q i) && not (has_holder reducers (moved capacity s e) q))
+    else passing (λ q. is_some (grown-looks s look (addition_of e) same q i) && not
+    (has_holder reducers (moved capacity s e) q))
     (length f.clauses + 1) ((moved capacity s e).next - (length f.clauses + 1))
 
 -- the look-up with what the entry adds, and without the ids that leave
@@ -76,12 +78,15 @@ after-looks f reducers capacity s look e ids same left q =
     ∙ ap (λ (o : Option (List Literal)). if has q ids then None else o) (grown-looks s look (addition_of e) same q)
 
 -- the lines of a history, entry by entry
-pub lines-look : (f : Cnf) (reducers capacity : ℕ) (s : State) (look : Live) (e : Entry) (ids : List ℕ) (later : List Entry)
+pub lines-look : (f : Cnf) (reducers capacity : ℕ) (s : State) (look : Live) (e : Entry) (ids : List ℕ)
+    (later : List Entry)
     → (rest : List Line) → Looks s look → left_by f reducers capacity s look e ≡ ids
     → lines_from f reducers capacity (after f reducers capacity s e) later ≡ rest
-    → lines_from f reducers capacity s (e ∷ later) ≡ (addition_lines s (addition_of e) ++ deletion_lines ((moved capacity s e).next - 1) ids) ++ rest
+    → lines_from f reducers capacity s (e ∷ later)
+    ≡ (addition_lines s (addition_of e) ++ deletion_lines ((moved capacity s e).next - 1) ids) ++ rest
 lines-look f reducers capacity s look e ids later rest same left lines i =
-    (addition_lines s (addition_of e) ++ deletion_lines ((moved capacity s e).next - 1) ((left-is f reducers capacity s look e same ∙ left) i)) ++ lines i
+    (addition_lines s (addition_of e) ++ deletion_lines ((moved capacity s e).next - 1)
+    ((left-is f reducers capacity s look e same ∙ left) i)) ++ lines i
 
 -- an actor's part by the look-up
 abbrev pub part_by : Cnf → State → Live → ℕ → Part
@@ -100,7 +105,8 @@ part-looks f s look actor same i = record {
 }
 
 -- an entry that the part by the look-up allows
-pub able-by : (f : Cnf) (reducers : ℕ) (s : State) (look : Live) (e : Entry) → Looks s look → s.closed ≡ false → IsReady s e
+pub able-by : (f : Cnf) (reducers : ℕ) (s : State) (look : Live) (e : Entry) → Looks s look → s.closed ≡ false
+    → IsReady s e
     → IsAble f reducers (part_by f s look (actor_of e)) e → Allowed f reducers s e
 able-by f reducers s look e same still ready able = record {
   still_open = still;

@@ -129,11 +129,25 @@ others-are P all id c is = pick (nat_eq id 5) refl (nat_le id 3) refl is
     rest = All-tail P short ((plus 3 ∷ plus 4 ∷ []) ∷ (plus 5 ∷ plus 6 ∷ []) ∷ []) all
 
     formula : (b3 b2 b1 : Bool)
-        → option_map members (if b3 then Some (plus 5 ∷ plus 6 ∷ []) else (if b2 then Some (plus 3 ∷ plus 4 ∷ []) else (if b1 then Some short else None))) ≡ Some c
+        → option_map members (if b3 then Some (plus 5 ∷ plus 6 ∷ [])
+        else (if b2 then Some (plus 3 ∷ plus 4 ∷ []) else (if b1 then Some short else None))) ≡ Some c
         → (d : List Literal) × (P d × (c ≡ members d))
-    formula true b2 b1 e = (plus 5 ∷ plus 6 ∷ [], (All-head P (plus 5 ∷ plus 6 ∷ []) [] (All-tail P (plus 3 ∷ plus 4 ∷ []) ((plus 5 ∷ plus 6 ∷ []) ∷ []) rest), same (plus 5 ∷ plus 6 ∷ []) e))
-    formula false true b1 e = (plus 3 ∷ plus 4 ∷ [], (All-head P (plus 3 ∷ plus 4 ∷ []) ((plus 5 ∷ plus 6 ∷ []) ∷ []) rest, same (plus 3 ∷ plus 4 ∷ []) e))
-    formula false false true e = (short, (All-head P short ((plus 3 ∷ plus 4 ∷ []) ∷ (plus 5 ∷ plus 6 ∷ []) ∷ []) all, same short e))
+    formula true b2 b1 e = (
+      plus 5 ∷ plus 6 ∷ [],
+      (
+        All-head P (plus 5 ∷ plus 6 ∷ []) [] (All-tail P (plus 3 ∷ plus 4 ∷ []) ((plus 5 ∷ plus 6 ∷ []) ∷ []) rest),
+        same (plus 5 ∷ plus 6 ∷ []) e,
+      ),
+    )
+    formula false true b1 e = (
+      plus 3 ∷ plus 4 ∷ [],
+      (
+        All-head P (plus 3 ∷ plus 4 ∷ []) ((plus 5 ∷ plus 6 ∷ []) ∷ []) rest,
+        same (plus 3 ∷ plus 4 ∷ []) e,
+      ),
+    )
+    formula false false true e =
+        (short, (All-head P short ((plus 3 ∷ plus 4 ∷ []) ∷ (plus 5 ∷ plus 6 ∷ []) ∷ []) all, same short e))
     formula false false false e = absurd (cc e)
 
     pick : (b5 : Bool) → nat_eq id 5 ≡ b5 → (low : Bool) → nat_le id 3 ≡ low
@@ -153,7 +167,8 @@ none-within given none l e = absurd (let lacks : given l ≡ false = none l in c
 
 -- no unit follows, since no clause has one literal
 units-there : HasItsUnits others
-units-there = inr (λ l follows. absurd (no-follow others pairs.clauses no_literals (members []) l others-are (none-within no_literals (λ q. refl)) refl refl follows))
+units-there = inr (λ l follows. absurd (no-follow others pairs.clauses no_literals (members []) l others-are
+    (none-within no_literals (λ q. refl)) refl refl follows))
 
 -- where 1 is false, 2 follows, and then the walk ends
 two-follows : InClosure others (negated (plus 1 ∷ [])) (plus 2)
@@ -173,7 +188,8 @@ keeps-short =
         no-follow others pairs.clauses (negated []) (members []) (negation (plus 1)) others-are nothing refl refl,
         no-follow others pairs.clauses (negated []) (members []) (plus 1) others-are nothing refl refl,
         inr (
-          no-conflict others pairs.clauses (negated (plus 1 ∷ [])) (negation (plus 1) ∷ plus 2 ∷ []) others-are refl within refl refl,
+          no-conflict others pairs.clauses (negated (plus 1 ∷ [])) (negation (plus 1) ∷ plus 2 ∷ []) others-are refl
+              within refl refl,
           inr (inl (two-follows, refl)),
         ),
       )),
@@ -186,11 +202,13 @@ keeps-short =
     Within l = members (negation (plus 1) ∷ plus 2 ∷ []) l ≡ true
 
     within : IsWithin (negated (plus 1 ∷ [])) (members (negation (plus 1) ∷ plus 2 ∷ []))
-    within l m = members-each Within (negation (plus 1) ∷ []) (All-cons Within (negation (plus 1)) [] refl (All-nil Within)) l m
+    within l m = members-each Within (negation (plus 1) ∷ [])
+        (All-cons Within (negation (plus 1)) [] refl (All-nil Within)) l m
 
 shortened : IsShortened others whole short
 shortened = record {
-  part = λ l m. members-each Within short (All-cons Within (plus 1) (plus 2 ∷ []) refl (All-cons Within (plus 2) [] refl (All-nil Within))) l m;
+  part = λ l m. members-each Within short
+      (All-cons Within (plus 1) (plus 2 ∷ []) refl (All-cons Within (plus 2) [] refl (All-nil Within))) l m;
   proper = λ part. let has = part (plus 3) refl in cc has;
   kept = short;
   greedy = keeps-short;
@@ -200,28 +218,71 @@ shortened = record {
     Within : Literal → Type 0
     Within l = members whole l ≡ true
 
-
 legal : IsLegal pairs 1 2 shortening_run
 legal = (
-  able-by pairs 1 (initial_state pairs) (formula_look pairs) offer4 (initial-looks pairs) refl tt (justified-by pairs (part_by pairs (initial_state pairs) (formula_look pairs) 0) (map plus (1 ∷ 2 ∷ 3 ∷ 4 ∷ 5 ∷ [])) (1 ∷ []) refl refl refl refl, omega arith, λ _. omega arith),
+  able-by pairs 1 (initial_state pairs) (formula_look pairs) offer4 (initial-looks pairs) refl tt (
+    justified-by pairs (part_by pairs (initial_state pairs) (formula_look pairs) 0)
+        (map plus (1 ∷ 2 ∷ 3 ∷ 4 ∷ 5 ∷ [])) (1 ∷ []) refl refl refl refl,
+    omega arith,
+    λ _. omega arith,
+  ),
   (
-    able-by pairs 1 state1 look1 offer5 looks1 refl tt (justified-by pairs (part_by pairs state1 look1 0) whole (1 ∷ []) refl refl refl refl, omega arith, λ _. omega arith),
+    able-by pairs 1 state1 look1 offer5 looks1 refl tt (
+      justified-by pairs (part_by pairs state1 look1 0) whole (1 ∷ []) refl refl refl refl,
+      omega arith,
+      λ _. omega arith,
+    ),
     (
-      able-by pairs 1 state2 look2 offer6 looks2 refl tt (justified-by pairs (part_by pairs state2 look2 0) (map plus (1 ∷ 2 ∷ 3 ∷ 5 ∷ 6 ∷ [])) (1 ∷ []) refl refl refl refl, omega arith, λ _. omega arith),
+      able-by pairs 1 state2 look2 offer6 looks2 refl tt (
+        justified-by pairs (part_by pairs state2 look2 0) (map plus (1 ∷ 2 ∷ 3 ∷ 5 ∷ 6 ∷ []))
+            (1 ∷ []) refl refl refl refl,
+        omega arith,
+        λ _. omega arith,
+      ),
       (
         able-by pairs 1 state3 look3 (Take 1) looks3 refl (λ e. cc e) (omega arith, omega arith, refl),
         (
-          able-by pairs 1 state4 look3 (Forget 0 (4 ∷ [])) looks4 refl tt (omega arith, (λ e. cc e), (omega arith, tt), All-cons (Held (4 ∷ 5 ∷ 6 ∷ [])) 4 [] refl (All-nil (Held (4 ∷ 5 ∷ 6 ∷ []))), All-cons Free 4 [] (λ e. cc e) (All-nil Free)),
+          able-by pairs 1 state4 look3 (Forget 0 (4 ∷ [])) looks4 refl tt (
+            omega arith,
+            (λ e. cc e),
+            (omega arith, tt),
+            All-cons (Held (4 ∷ 5 ∷ 6 ∷ [])) 4 [] refl
+                (All-nil (Held (4 ∷ 5 ∷ 6 ∷ []))),
+            All-cons Free 4 [] (λ e. cc e) (All-nil Free),
+          ),
           (
-            able-by pairs 1 state5 look5 (Forget 0 (5 ∷ [])) looks5 refl tt (omega arith, (λ e. cc e), (omega arith, tt), All-cons (Held (5 ∷ 6 ∷ [])) 5 [] refl (All-nil (Held (5 ∷ 6 ∷ []))), All-cons Free 5 [] (λ e. cc e) (All-nil Free)),
+            able-by pairs 1 state5 look5 (Forget 0 (5 ∷ [])) looks5 refl tt (
+              omega arith,
+              (λ e. cc e),
+              (omega arith, tt),
+              All-cons (Held (5 ∷ 6 ∷ [])) 5 [] refl
+                  (All-nil (Held (5 ∷ 6 ∷ []))),
+              All-cons Free 5 [] (λ e. cc e) (All-nil Free),
+            ),
             (
-              able-by pairs 1 state6 look5 shorten looks6 refl tt (omega arith, omega arith, 5, whole, refl, refl, units-there, (shortened, justified-by pairs part6 short (1 ∷ []) refl refl refl refl)),
+              able-by pairs 1 state6 look5 shorten looks6 refl tt (
+                omega arith,
+                omega arith,
+                5,
+                whole,
+                refl,
+                refl,
+                units-there,
+                (shortened, justified-by pairs part6 short (1 ∷ []) refl refl refl refl),
+              ),
               (
                 able-by pairs 1 state7 look7 Import looks7 refl (λ e. cc e) tt,
                 (
                   able-by pairs 1 state8 look7 Drained looks8 refl refl tt,
                   (
-                    able-by pairs 1 state9 look7 (Forget 1 (7 ∷ [])) looks9 refl tt (omega arith, (λ e. cc e), (omega arith, tt), All-cons (Held (7 ∷ [])) 7 [] refl (All-nil (Held (7 ∷ []))), All-cons Free 7 [] (λ e. cc e) (All-nil Free)),
+                    able-by pairs 1 state9 look7 (Forget 1 (7 ∷ [])) looks9 refl tt (
+                      omega arith,
+                      (λ e. cc e),
+                      (omega arith, tt),
+                      All-cons (Held (7 ∷ [])) 7 [] refl
+                          (All-nil (Held (7 ∷ []))),
+                      All-cons Free 7 [] (λ e. cc e) (All-nil Free),
+                    ),
                     tt,
                   ),
                 ),
@@ -262,21 +323,26 @@ lines7-are =
 pub shortening-run-is-legal : ShorteningRunIsLegal
 shortening-run-is-legal = (
   legal,
-  lines-look pairs 1 2 (initial_state pairs) (formula_look pairs) offer4 [] (offer5 ∷ offer6 ∷ Take 1 ∷ rest4) (Add 5 whole (1 ∷ []) ∷ Add 6 (map plus (1 ∷ 2 ∷ 3 ∷ 5 ∷ 6 ∷ [])) (1 ∷ []) ∷ lines4) (initial-looks pairs) refl
-      (lines-look pairs 1 2 state1 look1 offer5 [] (offer6 ∷ Take 1 ∷ rest4) (Add 6 (map plus (1 ∷ 2 ∷ 3 ∷ 5 ∷ 6 ∷ [])) (1 ∷ []) ∷ lines4) looks1 refl
+  lines-look pairs 1 2 (initial_state pairs) (formula_look pairs) offer4 [] (offer5 ∷ offer6 ∷ Take 1 ∷ rest4)
+      (Add 5 whole (1 ∷ []) ∷ Add 6 (map plus (1 ∷ 2 ∷ 3 ∷ 5 ∷ 6 ∷ [])) (1 ∷ []) ∷ lines4) (initial-looks pairs) refl
+      (lines-look pairs 1 2 state1 look1 offer5 [] (offer6 ∷ Take 1 ∷ rest4)
+      (Add 6 (map plus (1 ∷ 2 ∷ 3 ∷ 5 ∷ 6 ∷ [])) (1 ∷ []) ∷ lines4) looks1 refl
       (lines-look pairs 1 2 state2 look2 offer6 [] (Take 1 ∷ rest4) lines4 looks2 refl
       (lines-look pairs 1 2 state3 look3 (Take 1) [] rest4 lines4 looks3 refl
-      (lines-look pairs 1 2 state4 look3 (Forget 0 (4 ∷ [])) (4 ∷ []) (Forget 0 (5 ∷ []) ∷ shorten ∷ rest7) lines7 looks4 refl
+      (lines-look pairs 1 2 state4 look3 (Forget 0 (4 ∷ [])) (4 ∷ []) (Forget 0 (5 ∷ []) ∷ shorten ∷ rest7) lines7
+      looks4 refl
       (lines-look pairs 1 2 state5 look5 (Forget 0 (5 ∷ [])) [] (shorten ∷ rest7) lines7 looks5 refl lines7-are))))),
 )
 
 pub shorter-is-not-same : ShorterIsNotSame
 shorter-is-not-same legal =
-    let able : IsAble pairs 1 part6 (Return 1 Same) = subst (λ p. IsAble pairs 1 p (Return 1 Same)) (sym (part-looks pairs state6 look5 1 looks6)) legal.1.1.1.1.1.1.0.able in
+    let able : IsAble pairs 1 part6 (Return 1 Same) = subst (λ p. IsAble pairs 1 p (Return 1 Same))
+    (sym (part-looks pairs state6 look5 1 looks6)) legal.1.1.1.1.1.1.0.able in
     let same : able.2 ≡ 5 = let z = able.4 in cc z in
     let cited : look5 5 ≡ Some able.3 = sym (ap part6.cites same) ∙ able.5 in
     let clause : able.3 ≡ whole = let z : whole ≡ able.3 = cc cited in sym z in
-    let keeps : KeepsAll others whole = subst (λ d. KeepsAll others d) clause (subst (λ id. KeepsAll (others_of part6 id) able.3) same able.7) in
+    let keeps : KeepsAll others whole = subst (λ d. KeepsAll others d) clause
+    (subst (λ id. KeepsAll (others_of part6 id) able.3) same able.7) in
     let kept : keeps.0 ≡ short = greedy-unique others whole keeps.0 short keeps.1 keeps-short in
     let has : members short (plus 3) ≡ true = ap (λ ls. members ls (plus 3)) (sym kept) ∙ keeps.2 (plus 3) refl in
     cc has

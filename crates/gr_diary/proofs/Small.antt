@@ -22,7 +22,8 @@ refutation-is-legal = (
       record {
         normal = tt;
         within = All-nil (λ (l : Literal). l.index < 1);
-        cited = All-cons (λ id. IsSome (first_part.cites id)) 1 (2 ∷ []) refl (All-cons (λ id. IsSome (first_part.cites id)) 2 [] refl (All-nil (λ id. IsSome (first_part.cites id))));
+        cited = All-cons (λ id. IsSome (first_part.cites id)) 1 (2 ∷ []) refl
+            (All-cons (λ id. IsSome (first_part.cites id)) 2 [] refl (All-nil (λ id. IsSome (first_part.cites id))));
         accepted = refl;
       },
       omega arith,
@@ -35,8 +36,12 @@ refutation-is-legal = (
 
 pub unread-hint-counts : UnreadHintCounts
 unread-hint-counts = (
-  ap (λ (p : Part). rup p.cites [] (1 ∷ 2 ∷ 3 ∷ [])) (sym (part-looks opposites (initial_state opposites) (formula_look opposites) 0 (initial-looks opposites))),
-  λ legal. let third = All-head (λ id. IsSome ((part_after opposites 0 1 [] 0).cites id)) 3 [] (All-tail (λ id. IsSome ((part_after opposites 0 1 [] 0).cites id)) 2 (3 ∷ []) (All-tail (λ id. IsSome ((part_after opposites 0 1 [] 0).cites id)) 1 (2 ∷ 3 ∷ []) legal.0.able.0.cited)) in cc third,
+  ap (λ (p : Part). rup p.cites [] (1 ∷ 2 ∷ 3 ∷ []))
+      (sym (part-looks opposites (initial_state opposites) (formula_look opposites) 0 (initial-looks opposites))),
+  λ legal. let third = All-head (λ id. IsSome ((part_after opposites 0 1 [] 0).cites id)) 3 []
+      (All-tail (λ id. IsSome ((part_after opposites 0 1 [] 0).cites id)) 2 (3 ∷ [])
+      (All-tail (λ id. IsSome ((part_after opposites 0 1 [] 0).cites id)) 1 (2 ∷ 3 ∷ []) legal.0.able.0.cited)) in
+      cc third,
 )
 
 pub ends-are-last : EndsAreLast
@@ -65,7 +70,8 @@ forgets-are-in-order = (
   λ legal. let rises = legal.1.1.0.able.2.1.0 in omega arith,
   λ legal. let rises = legal.1.1.0.able.2.1.0 in omega arith,
   λ legal. legal.1.1.0.able.1 refl,
-  λ legal. let held = All-head (λ id. Rattle.std.specs.Prelude.IsTrue (has id (4 ∷ 5 ∷ []))) 1 [] legal.1.1.0.able.3 in cc held,
+  λ legal. let held = All-head (λ id. Rattle.std.specs.Prelude.IsTrue (has id (4 ∷ 5 ∷ []))) 1 [] legal.1.1.0.able.3
+      in cc held,
   λ legal. All-head (λ id. Some 5 ≢ Some id) 5 [] legal.1.1.1.0.able.4 refl,
 )
 
@@ -75,8 +81,10 @@ learns-are-in-bounds = (
     able-by chain 0 (initial_state chain) (formula_look chain) learn_two (initial-looks chain) refl tt (
       record {
         normal = (λ q m. absurd (cc m), tt);
-        within = All-cons (λ (l : Literal). l.index < 4) (plus 2) [] (omega arith) (All-nil (λ (l : Literal). l.index < 4));
-        cited = All-cons (λ id. IsSome (chain_part.cites id)) 1 (2 ∷ []) refl (All-cons (λ id. IsSome (chain_part.cites id)) 2 [] refl (All-nil (λ id. IsSome (chain_part.cites id))));
+        within = All-cons (λ (l : Literal). l.index < 4) (plus 2) [] (omega arith)
+            (All-nil (λ (l : Literal). l.index < 4));
+        cited = All-cons (λ id. IsSome (chain_part.cites id)) 1 (2 ∷ []) refl
+            (All-cons (λ id. IsSome (chain_part.cites id)) 2 [] refl (All-nil (λ id. IsSome (chain_part.cites id))));
         accepted = refl;
       },
       omega arith,
@@ -95,5 +103,6 @@ pub learns-are-normal : LearnsAreNormal
 learns-are-normal = (
   λ legal. legal.0.able.0.normal.0 (plus 2) refl refl,
   λ legal. legal.0.able.0.normal.0 (minus 2) refl refl,
-  λ legal. let low = All-head (λ (l : Literal). l.index < 4) (plus 5) [] (All-tail (λ (l : Literal). l.index < 4) (plus 2) (plus 5 ∷ []) legal.0.able.0.within) in omega arith,
+  λ legal. let low = All-head (λ (l : Literal). l.index < 4) (plus 5) []
+      (All-tail (λ (l : Literal). l.index < 4) (plus 2) (plus 5 ∷ []) legal.0.able.0.within) in omega arith,
 )

@@ -26,14 +26,20 @@ use Rattle.gr_diary.proofs.Own.{legal-parts}
 use Rattle.gr_diary.proofs.Lines.{cites-live}
 
 -- what is taken after an entry was live before it, and its clause stays
-taken-clause : (f : Cnf) (reducers capacity : ℕ) (s : State) (e : Entry) (a id : ℕ) → IsKept f reducers s → Allowed f reducers s e → map.contains_key s.live id ≡ true → (after f reducers capacity s e).taken a ≡ Some id → map.get (after f reducers capacity s e).live id ≡ map.get s.live id
+taken-clause : (f : Cnf) (reducers capacity : ℕ) (s : State) (e : Entry) (a id : ℕ) → IsKept f reducers s
+    → Allowed f reducers s e → map.contains_key s.live id ≡ true → (after f reducers capacity s e).taken a ≡ Some id
+    → map.get (after f reducers capacity s e).live id ≡ map.get s.live id
 taken-clause f reducers capacity s e a id k ok there now =
-    let order : IsInOrder f reducers (moved capacity s e) = in-order f reducers capacity s k.order e (changed f reducers capacity s k.order e ok) in
-    held-stays f reducers (moved capacity s e) order (left_ids f reducers capacity s e) (λ q h. (left-free f reducers capacity s e q h).1) id (held-holder f reducers (moved capacity s e) order a id (order.taken a id now).0)
+    let order : IsInOrder f reducers (moved capacity s e) = in-order f reducers capacity s k.order e
+    (changed f reducers capacity s k.order e ok) in
+    held-stays f reducers (moved capacity s e) order (left_ids f reducers capacity s e)
+    (λ q h. (left-free f reducers capacity s e q h).1) id
+    (held-holder f reducers (moved capacity s e) order a id (order.taken a id now).0)
     ∙ get-grown f reducers s k.order (addition_of e) id there
 
 -- with no `Take` of the actor, what it has taken after an entry it had taken before it
-was-taken : (s : State) (e : Entry) (a id : ℕ) → is_take_of a e ≡ false → taken_after s e a ≡ Some id → s.taken a ≡ Some id
+was-taken : (s : State) (e : Entry) (a id : ℕ) → is_take_of a e ≡ false → taken_after s e a ≡ Some id
+    → s.taken a ≡ Some id
 was-taken s e a id other now = pick (nat_eq a (actor_of e)) refl now
   where
     own : (x : Entry) → is_take_of (actor_of x) x ≡ false → taken_of s x ≡ Some id → s.taken (actor_of x) ≡ Some id
@@ -46,12 +52,16 @@ was-taken s e a id other now = pick (nat_eq a (actor_of e)) refl now
     own (Forget actor ids) other t = t
     own Close other t = t
 
-    pick : (b : Bool) → nat_eq a (actor_of e) ≡ b → (if b then taken_of s e else s.taken a) ≡ Some id → s.taken a ≡ Some id
-    pick true is t = let same = eqb-true a (actor_of e) is in ap s.taken same ∙ own e (subst (λ z. is_take_of z e ≡ false) same other) t
+    pick : (b : Bool) → nat_eq a (actor_of e) ≡ b → (if b then taken_of s e else s.taken a) ≡ Some id
+        → s.taken a ≡ Some id
+    pick true is t = let same = eqb-true a (actor_of e) is in ap s.taken same
+        ∙ own e (subst (λ z. is_take_of z e ≡ false) same other) t
     pick false is t = t
 
 -- and over a whole stretch
-stretch : (f : Cnf) (reducers capacity : ℕ) (d : List Entry) (s : State) (a id : ℕ) → IsKept f reducers s → IsLegalFrom f reducers capacity s d → list_any (is_take_of a) d ≡ false → (state_from f reducers capacity s d).taken a ≡ Some id
+stretch : (f : Cnf) (reducers capacity : ℕ) (d : List Entry) (s : State) (a id : ℕ) → IsKept f reducers s
+    → IsLegalFrom f reducers capacity s d → list_any (is_take_of a) d ≡ false
+    → (state_from f reducers capacity s d).taken a ≡ Some id
     → (s.taken a ≡ Some id) × (map.get (state_from f reducers capacity s d).live id ≡ map.get s.live id)
 stretch f reducers capacity [] s a id k legal none_taken now = (now, refl)
 stretch f reducers capacity (e ∷ es) s a id k legal none_taken now =
@@ -62,7 +72,8 @@ stretch f reducers capacity (e ∷ es) s a id k legal none_taken now =
     let there = (k.order.held a id (k.order.taken a id before).0).live in
     (before, rest.1 ∙ taken-clause f reducers capacity s e a id k legal.0 there rest.0)
 
-some-of : (o : Option Item) (id : ℕ) → option_map (λ (i : Item). i.id) o ≡ Some id → (item : Item) × (o ≡ Some item) × (item.id ≡ id)
+some-of : (o : Option Item) (id : ℕ) → option_map (λ (i : Item). i.id) o ≡ Some id → (item : Item) × (o ≡ Some item)
+    × (item.id ≡ id)
 some-of None id e = absurd (cc)
 some-of (Some item) id e = (item, refl, cc)
 
@@ -72,9 +83,11 @@ part-of-taken : (f : Cnf) (reducers capacity : ℕ) (before between : List Entry
     → list_any (is_take_of actor) between ≡ false
     → IsPartOfLastTaken f reducers capacity (before ++ Take actor ∷ between) actor c
 part-of-taken f reducers capacity before between actor c hints later legal none_taken =
-    let one = legal-parts f reducers capacity before (Take actor ∷ (between ++ Return actor (Shorter c hints) ∷ later)) (initial_state f) legal in
+    let one = legal-parts f reducers capacity before
+    (Take actor ∷ (between ++ Return actor (Shorter c hints) ∷ later)) (initial_state f) legal in
     let s : State = state_of f reducers capacity before in
-    let k : IsKept f reducers s = all-kept f reducers capacity before (initial_state f) (begins-kept f reducers) one.0 in
+    let k : IsKept f reducers s = all-kept f reducers capacity before (initial_state f)
+    (begins-kept f reducers) one.0 in
     let t : State = after f reducers capacity s (Take actor) in
     let two = legal-parts f reducers capacity between (Return actor (Shorter c hints) ∷ later) t one.1.1 in
     let u : State = state_from f reducers capacity t between in
@@ -82,10 +95,14 @@ part-of-taken f reducers capacity before between actor c hints later legal none_
     let id : ℕ = able.2 in
     let kt : IsKept f reducers t = kept f reducers capacity s (Take actor) k one.1.0 in
     let since = stretch f reducers capacity between t actor id kt two.0 none_taken able.4 in
-    let best_is : best_id s ≡ Some id = sym (ap (λ b. if b then best_id s else s.taken actor) (same-number actor)) ∙ since.0 in
+    let best_is : best_id s ≡ Some id = sym (ap (λ b. if b then best_id s else s.taken actor) (same-number actor))
+    ∙ since.0 in
     let found = some-of (best s.work) id best_is in
-    let there : map.contains_key s.live id ≡ true = (k.order.work id (Rattle.gr_diary.proofs.Changes.best-in s.work id best_is)).0.live in
-    let clause : map.get s.live id ≡ Some able.3 = sym (since.1 ∙ taken-clause f reducers capacity s (Take actor) actor id k one.1.0 there since.0) ∙ cites-live f u actor id able.3 able.5 in
+    let there : map.contains_key s.live id ≡ true =
+    (k.order.work id (Rattle.gr_diary.proofs.Changes.best-in s.work id best_is)).0.live in
+    let clause : map.get s.live id ≡ Some able.3 =
+    sym (since.1 ∙ taken-clause f reducers capacity s (Take actor) actor id k one.1.0 there since.0)
+    ∙ cites-live f u actor id able.3 able.5 in
     record {
       earlier = before;
       between = between;
@@ -101,13 +118,16 @@ part-of-taken f reducers capacity before between actor c hints later legal none_
 
 -- a list with an element that passes has a last one
 last-passing : (p : Entry → Bool) (d : List Entry) → list_any p d ≡ true
-    → (before : List Entry) × (x : Entry) × (behind : List Entry) × (d ≡ before ++ x ∷ behind) × (p x ≡ true) × (list_any p behind ≡ false)
+    → (before : List Entry) × (x : Entry) × (behind : List Entry) × (d ≡ before ++ x ∷ behind) × (p x ≡ true)
+    × (list_any p behind ≡ false)
 last-passing p [] some = absurd (cc)
 last-passing p (e ∷ es) some = pick (last-passing p es) (list_any p es) refl (p e) refl some
   where
-    pick : (list_any p es ≡ true → (before : List Entry) × (x : Entry) × (behind : List Entry) × (es ≡ before ++ x ∷ behind) × (p x ≡ true) × (list_any p behind ≡ false))
+    pick : (list_any p es ≡ true → (before : List Entry) × (x : Entry) × (behind : List Entry)
+        × (es ≡ before ++ x ∷ behind) × (p x ≡ true) × (list_any p behind ≡ false))
         → (rest : Bool) → list_any p es ≡ rest → (here : Bool) → p e ≡ here → (here || rest) ≡ true
-        → (before : List Entry) × (x : Entry) × (behind : List Entry) × (e ∷ es ≡ before ++ x ∷ behind) × (p x ≡ true) × (list_any p behind ≡ false)
+        → (before : List Entry) × (x : Entry) × (behind : List Entry) × (e ∷ es ≡ before ++ x ∷ behind) × (p x ≡ true)
+        × (list_any p behind ≡ false)
     pick deeper true rest_is here is some =
         let later = deeper rest_is in
         (e ∷ later.0, later.1, later.2, ap (λ (z : List Entry). e ∷ z) later.3, later.4, later.5)
@@ -127,14 +147,21 @@ take-is actor Close is = absurd (cc)
 
 pub returned-clauses-are-parts : ReturnedClausesAreParts
 returned-clauses-are-parts f reducers capacity before actor c hints later legal =
-    let parts = legal-parts f reducers capacity before (Return actor (Shorter c hints) ∷ later) (initial_state f) legal in
+    let parts = legal-parts f reducers capacity before (Return actor (Shorter c hints) ∷ later)
+    (initial_state f) legal in
     let able = parts.1.0.able in
-    let some : list_any (is_take_of actor) before ≡ true = true_from_ne_false (list_any (is_take_of actor) before) (λ none_taken.
-    let since = stretch f reducers capacity before (initial_state f) actor able.2 (begins-kept f reducers) parts.0 none_taken able.4 in
+    let some : list_any (is_take_of actor) before ≡ true = true_from_ne_false (list_any (is_take_of actor) before)
+    (λ none_taken.
+    let since = stretch f reducers capacity before (initial_state f) actor able.2
+    (begins-kept f reducers) parts.0 none_taken able.4 in
     cc since.0) in
     let last = last-passing (is_take_of actor) before some in
-    let split : before ≡ last.0 ++ Take actor ∷ last.2 = last.3 ∙ ap (λ x. last.0 ++ x ∷ last.2) (take-is actor last.1 last.4) in
-    let whole : before ++ Return actor (Shorter c hints) ∷ later ≡ last.0 ++ Take actor ∷ (last.2 ++ Return actor (Shorter c hints) ∷ later) =
-    ap (λ z. z ++ Return actor (Shorter c hints) ∷ later) split ∙ append_assoc last.0 (Take actor ∷ last.2) (Return actor (Shorter c hints) ∷ later) in
+    let split : before ≡ last.0 ++ Take actor ∷ last.2 = last.3
+    ∙ ap (λ x. last.0 ++ x ∷ last.2) (take-is actor last.1 last.4) in
+    let whole : before ++ Return actor (Shorter c hints) ∷ later
+    ≡ last.0 ++ Take actor ∷ (last.2 ++ Return actor (Shorter c hints) ∷ later) =
+    ap (λ z. z ++ Return actor (Shorter c hints) ∷ later) split ∙ append_assoc last.0 (Take actor ∷ last.2)
+    (Return actor (Shorter c hints) ∷ later) in
     subst (λ z. IsPartOfLastTaken f reducers capacity z actor c) (sym split)
-    (part-of-taken f reducers capacity last.0 last.2 actor c hints later (subst (IsLegal f reducers capacity) whole legal) last.5)
+    (part-of-taken f reducers capacity last.0 last.2 actor c hints later
+    (subst (IsLegal f reducers capacity) whole legal) last.5)

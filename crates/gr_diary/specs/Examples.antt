@@ -10,10 +10,11 @@ use Rattle.gr_diary.specs.declared.entries.Entry.TheVariants.{Learn, Take, Retur
 use Rattle.gr_diary.specs.declared.entries.Entry.TheVariants as entry
 use Rattle.gr_diary.specs.Histories.{IsLegal, AddsEmptyClause, lines_of, part_after}
 
--- the literal of a variable, counted from 1, and its negation
+-- the literal of a variable, counted from 1
 abbrev pub plus : ℕ → Literal
 plus var = record { index = var - 1; positive = true }
 
+-- its negation
 abbrev pub minus : ℕ → Literal
 minus var = record { index = var - 1; positive = false }
 
@@ -128,8 +129,8 @@ pairs = record {
 abbrev pub offer_of : List ℕ → ℕ → Entry
 offer_of vars lbd = Learn (map plus vars) (1 ∷ []) lbd true
 
--- where two items have room, the third drives out the first; the reducer takes the item with the least LBD; the searching
--- thread lets the clause that was driven out go, and the one that was taken
+-- where two items have room, the third drives out the first; the reducer takes the item with the least LBD; the
+-- searching thread lets the clause that was driven out go, and the one that was taken
 abbrev pub taken_run : List Entry
 taken_run =
     offer_of (1 ∷ 2 ∷ 3 ∷ 4 ∷ 5 ∷ []) 5 ∷ offer_of (1 ∷ 2 ∷ 3 ∷ 4 ∷ 6 ∷ []) 3 ∷ offer_of (1 ∷ 2 ∷ 3 ∷ 5 ∷ 6 ∷ []) 4

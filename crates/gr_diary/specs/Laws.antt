@@ -32,6 +32,7 @@ AddedClausesAreImplied =
     (f : Cnf) (reducers capacity : ℕ) (before : List Entry) (e : Entry) (later : List Entry) (a : Addition)
     → IsLegal f reducers capacity (before ++ e ∷ later) → addition_of e ≡ Some a → Implied f.clauses a.clause
 
+-- the actor takes an item by the entry
 abbrev pub is_take_of : ℕ → Entry → Bool
 is_take_of actor (Take reducer) = nat_eq reducer actor
 is_take_of actor (Learn clause hints lbd offered) = false
@@ -64,7 +65,7 @@ ReturnedClausesAreParts =
     → (later : List Entry) → IsLegal f reducers capacity (before ++ Return actor (Shorter c hints) ∷ later)
     → IsPartOfLastTaken f reducers capacity before actor c
 
--- a legal history that adds the empty clause is a refutation: its log is accepted, and no assignment satisfies the formula
+-- a legal history that adds the empty clause refutes: its log is accepted, and no assignment satisfies the formula
 abbrev pub EmptyClausesRefute : Type 0
 EmptyClausesRefute =
     (f : Cnf) (reducers capacity : ℕ) (d : List Entry) → IsLegal f reducers capacity d → AddsEmptyClause d
@@ -88,8 +89,8 @@ OthersKeepHeld =
     (f : Cnf) (reducers capacity : ℕ) (s : State) (e : Entry) (actor : ℕ) → actor ≢ actor_of e
     → (after f reducers capacity s e).held actor ≡ s.held actor
 
--- what the laws of an actor's own part speak of: two legal histories, one the beginning of the other, in which the actor
--- has the same entries
+-- what the laws of an actor's own part speak of: two legal histories, one the beginning of the other, in which the
+-- actor has the same entries
 pub record IsSeenBy (f : Cnf) (reducers capacity actor : ℕ) (d e : List Entry) : Type 0 where
   pub legal : IsLegal f reducers capacity d
   pub legal_later : IsLegal f reducers capacity e

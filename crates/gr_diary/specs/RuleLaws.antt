@@ -39,8 +39,8 @@ LowLbdIsOffered =
 abbrev pub learn : ℕ → Entry
 learn lbd = Learn [] [] lbd false
 
--- 62 clauses with an LBD of 0 and one with 1: the mean of the last 50 is above 5/4 of the mean of all, since 8 times 63 is
--- above 500
+-- 62 clauses with an LBD of 0 and one with 1: the mean of the last 50 is above 5/4 of the mean of all, since 8 times 63
+-- is above 500
 abbrev pub sudden : List Entry
 sudden = replicate 62 (learn 0) ++ learn 1 ∷ []
 
