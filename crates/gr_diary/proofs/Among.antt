@@ -77,22 +77,22 @@ module _ {X : Type 0} (key : X → ℕ) where
       there is (inr e) rest = rest e
 
   pub apart-filter : (p : X → Bool) (xs : List X) → IsApart key xs → IsApart key (filter p xs)
-  apart-filter p [] h = tt
-  apart-filter p (x ∷ xs) h =
+  apart-filter p [] apart = tt
+  apart-filter p (x ∷ xs) apart =
       elim (p x) as (λ b. IsApart key (cond b (x ∷ filter p xs) (filter p xs))) [
         | true ↦ (false_from_ne_true (among key (key x) (filter p xs))
-            (λ e. not-both (among key (key x) xs) (among-filter p (key x) xs e) h.0), apart-filter p xs h.1)
-        | false ↦ apart-filter p xs h.1
+            (λ e. not-both (among key (key x) xs) (among-filter p (key x) xs e) apart.0), apart-filter p xs apart.1)
+        | false ↦ apart-filter p xs apart.1
       ]
 
   pub apart-push : (xs : List X) (y : X) → IsApart key xs → among key (key y) xs ≡ false → IsApart key (xs ++ y ∷ [])
-  apart-push [] y h out = (refl, tt)
-  apart-push (x ∷ xs) y h out =
+  apart-push [] y apart out = (refl, tt)
+  apart-push (x ∷ xs) y apart out =
       let parts = or_parts (nat_eq (key y) (key x)) (among key (key y) xs) out in
       let turned : nat_eq (key x) (key y) ≡ false = let n = parts.0 in grind (arith, nat_tests) in (
-        among-append (key x) xs (y ∷ []) ∙ or_from (among key (key x) xs) (nat_eq (key x) (key y) || false) h.0
+        among-append (key x) xs (y ∷ []) ∙ or_from (among key (key x) xs) (nat_eq (key x) (key y) || false) apart.0
             (or_from (nat_eq (key x) (key y)) false turned refl),
-        apart-push xs y h.1 parts.1,
+        apart-push xs y apart.1 parts.1,
       )
 
   pub among-rest : (q : ℕ) (xs : List X) → among key q (without_first xs) ≡ true → among key q xs ≡ true
@@ -100,8 +100,8 @@ module _ {X : Type 0} (key : X → ℕ) where
   among-rest q (x ∷ xs) e = or-second (nat_eq q (key x)) (among key q xs) e
 
   pub apart-rest : (xs : List X) → IsApart key xs → IsApart key (without_first xs)
-  apart-rest [] h = tt
-  apart-rest (x ∷ xs) h = h.1
+  apart-rest [] apart = tt
+  apart-rest (x ∷ xs) apart = apart.1
 
   pub among-one : (q : ℕ) (x : X) → among key q (x ∷ []) ≡ true → q ≡ key x
   among-one q x e = one (or_cases (nat_eq q (key x)) false e)

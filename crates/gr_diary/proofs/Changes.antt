@@ -43,23 +43,23 @@ first-in (r ∷ rs) q e = let same : r.id ≡ q = cc in or-first (nat_eq q r.id)
 
 first-apart : (rs : List Outcome) (q : ℕ) → IsApart (λ (r : Outcome). r.id) rs → first_result rs ≡ Some q
     → in_results q (without_first rs) ≡ false
-first-apart [] q h e = absurd (cc)
-first-apart (r ∷ rs) q h e = let same : r.id ≡ q = cc in subst (λ z. in_results z rs ≡ false) same h.0
+first-apart [] q there e = absurd (cc)
+first-apart (r ∷ rs) q there e = let same : r.id ≡ q = cc in subst (λ z. in_results z rs ≡ false) same there.0
 
 all-has : (P : ℕ → Type 0) (ids : List ℕ) (q : ℕ) → All P ids → has q ids ≡ true → P q
-all-has P [] q all h = absurd (cc)
-all-has P (x ∷ xs) q all h = pick (nat_eq q x) refl h (all-has P xs q (All-tail P x xs all))
+all-has P [] q all there = absurd (cc)
+all-has P (x ∷ xs) q all there = pick (nat_eq q x) refl there (all-has P xs q (All-tail P x xs all))
   where
     pick : (b : Bool) → nat_eq q x ≡ b → (b || has q xs) ≡ true → (has q xs ≡ true → P q) → P q
-    pick true is h rest = subst P (sym (eqb-true q x is)) (All-head P x xs all)
-    pick false is h rest = rest h
+    pick true is there rest = subst P (sym (eqb-true q x is)) (All-head P x xs all)
+    pick false is there rest = rest there
 
 module _ (f : Cnf) (reducers capacity : ℕ) (s : State) (k : IsInOrder f reducers s) where
   result-new : (e : Entry) (q : ℕ) → in_results q (result_of s e) ≡ true
       → (q ≡ s.next) × IsLearnt f (moved capacity s e) s.next
-  result-new (Learn c hints lbd offered) q h = absurd (cc)
-  result-new (entry.Unit actor lit hints) q h = (
-    pick (nat_lt 0 actor) h,
+  result-new (Learn c hints lbd offered) q there = absurd (cc)
+  result-new (entry.Unit actor lit hints) q there = (
+    pick (nat_lt 0 actor) there,
     new-learnt f reducers capacity s k (entry.Unit actor lit hints) record {
       clause =
           lit ∷ [];
@@ -68,18 +68,18 @@ module _ (f : Cnf) (reducers capacity : ℕ) (s : State) (k : IsInOrder f reduce
   )
     where
       pick : (b : Bool) → in_results q (if b then record { old = None; id = s.next } ∷ [] else []) ≡ true → q ≡ s.next
-      pick true h = among-one (λ (r : Outcome). r.id) q record { old = None; id = s.next } h
-      pick false h = absurd (cc)
-  result-new (Take actor) q h = absurd (cc)
-  result-new (Return actor Same) q h = absurd (cc)
-  result-new (Return actor (Shorter c hints)) q h = (
-    among-one (λ (r : Outcome). r.id) q record { old = s.taken actor; id = s.next } h,
+      pick true there = among-one (λ (r : Outcome). r.id) q record { old = None; id = s.next } there
+      pick false there = absurd (cc)
+  result-new (Take actor) q there = absurd (cc)
+  result-new (Return actor Same) q there = absurd (cc)
+  result-new (Return actor (Shorter c hints)) q there = (
+    among-one (λ (r : Outcome). r.id) q record { old = s.taken actor; id = s.next } there,
     new-learnt f reducers capacity s k (Return actor (Shorter c hints)) record { clause = c; hints = hints } refl,
   )
-  result-new Import q h = absurd (cc)
-  result-new Drained q h = absurd (cc)
-  result-new (Forget actor ids) q h = absurd (cc)
-  result-new Close q h = absurd (cc)
+  result-new Import q there = absurd (cc)
+  result-new Drained q there = absurd (cc)
+  result-new (Forget actor ids) q there = absurd (cc)
+  result-new Close q there = absurd (cc)
 
   result-shape : (e : Entry) → (result_of s e ≡ []) ⊎ ((r : Outcome) × (result_of s e ≡ r ∷ []) × (r.id ≡ s.next))
   result-shape (Learn c hints lbd offered) = inl refl
@@ -129,16 +129,16 @@ module _ (f : Cnf) (reducers capacity : ℕ) (s : State) (k : IsInOrder f reduce
 
   base-among : (b : Bool) (q : ℕ) → in_results q (if b then without_first s.results else s.results) ≡ true
       → in_results q s.results ≡ true
-  base-among true q h = among-rest (λ (r : Outcome). r.id) q s.results h
-  base-among false q h = h
+  base-among true q there = among-rest (λ (r : Outcome). r.id) q s.results there
+  base-among false q there = there
 
   base-apart : (b : Bool) → IsApart (λ (r : Outcome). r.id) (if b then without_first s.results else s.results)
   base-apart true = apart-rest (λ (r : Outcome). r.id) s.results k.results_apart
   base-apart false = k.results_apart
 
   rest-All : (P : Outcome → Type 0) (rs : List Outcome) → All P rs → All P (without_first rs)
-  rest-All P [] h = h
-  rest-All P (r ∷ rs) h = All-tail P r rs h
+  rest-All P [] there = there
+  rest-All P (r ∷ rs) there = All-tail P r rs there
 
   base-old : (b : Bool) → All (OldIsFine f s) (if b then without_first s.results else s.results)
   base-old true = rest-All (OldIsFine f s) s.results k.old
@@ -146,9 +146,9 @@ module _ (f : Cnf) (reducers capacity : ℕ) (s : State) (k : IsInOrder f reduce
 
   results-from : (e : Entry) (q : ℕ) → in_results q (results_after s e) ≡ true → (in_results q s.results ≡ true)
       ⊎ ((q ≡ s.next) × IsLearnt f (moved capacity s e) s.next)
-  results-from e q h = ⊎_elim (λ u. inl (base-among (is_import e) q u)) (λ u. inr (result-new e q u))
+  results-from e q there = ⊎_elim (λ u. inl (base-among (is_import e) q u)) (λ u. inr (result-new e q u))
       (among-cases (λ (r : Outcome). r.id) q (if is_import e then without_first s.results else s.results)
-      (result_of s e) h)
+      (result_of s e) there)
 
   results-apart : (e : Entry) → IsApart (λ (r : Outcome). r.id) (results_after s e)
   results-apart e = ⊎_elim
@@ -158,8 +158,8 @@ module _ (f : Cnf) (reducers capacity : ℕ) (s : State) (k : IsInOrder f reduce
       (λ z. IsApart (λ (r : Outcome). r.id) (base ++ z)) (sym u.1)
       (apart-push (λ (r : Outcome). r.id) base u.0 (base-apart (is_import e))
       (false_from_ne_true (in_results u.0.id base)
-      (λ h. not-both (in_results s.next s.results)
-      (subst (λ z. in_results z s.results ≡ true) u.2 (base-among (is_import e) u.0.id h))
+      (λ there. not-both (in_results s.next s.results)
+      (subst (λ z. in_results z s.results ≡ true) u.2 (base-among (is_import e) u.0.id there))
       (next-not-results f reducers capacity s k e)))))
       (result-shape e)
     where
@@ -176,7 +176,7 @@ module _ (f : Cnf) (reducers capacity : ℕ) (s : State) (k : IsInOrder f reduce
       (result-old e)
 
   not-in-results : (q : ℕ) → in_results q s.results ≡ false → in_results q (s.results ++ []) ≡ false
-  not-in-results q h = ap (in_results q) (append-nil s.results) ∙ h
+  not-in-results q there = ap (in_results q) (append-nil s.results) ∙ there
 
   pub changed : (e : Entry) → Allowed f reducers s e → Change f reducers capacity s k e
   changed (Learn c hints lbd offered) ok =
@@ -191,12 +191,12 @@ module _ (f : Cnf) (reducers capacity : ℕ) (s : State) (k : IsInOrder f reduce
         gain_results = λ q is zero. let same : s.next ≡ q = cc in
             not-in-results q (subst (λ z. in_results z s.results ≡ false) same
             (next-not-results f reducers capacity s k e));
-        work = λ q h. work-from offered refl q h;
+        work = λ q there. work-from offered refl q there;
         work_apart = work-apart offered;
         results = results-from e;
         results_apart = results-apart e;
         old = old-fine e;
-        taken = λ q is. absurd (let z = k.idle in cc);
+        taken = λ q is. absurd (let fact = k.idle in cc);
         idle = λ _. k.idle;
         justified = λ x is. justified f reducers s e x ok is;
       }
@@ -208,8 +208,8 @@ module _ (f : Cnf) (reducers capacity : ℕ) (s : State) (k : IsInOrder f reduce
       base b = if b then without_first s.work else s.work
 
       base-in : (b : Bool) (q : ℕ) → in_work q (base b) ≡ true → in_work q s.work ≡ true
-      base-in true q h = among-rest (λ (i : Item). i.id) q s.work h
-      base-in false q h = h
+      base-in true q there = among-rest (λ (i : Item). i.id) q s.work there
+      base-in false q there = there
 
       base-is : (b : Bool) → IsApart (λ (i : Item). i.id) (base b)
       base-is true = apart-rest (λ (i : Item). i.id) s.work k.work_apart
@@ -220,7 +220,7 @@ module _ (f : Cnf) (reducers capacity : ℕ) (s : State) (k : IsInOrder f reduce
           → (in_work q s.work ≡ true)
           ⊎ ((q ≡ s.next) × IsLearnt f (moved capacity s (Learn c hints lbd offered)) s.next
           × HasTwo (moved capacity s (Learn c hints lbd offered)) s.next)
-      work-from true is q h = ⊎_elim (λ u. inl (base-in (nat_eq (length s.work) capacity) q u))
+      work-from true is q there = ⊎_elim (λ u. inl (base-in (nat_eq (length s.work) capacity) q u))
           (λ u. inr (
             among-one (λ (i : Item). i.id) q item u,
             new-learnt f reducers capacity s k (Learn c hints lbd offered) record { clause = c; hints = hints } refl,
@@ -228,15 +228,15 @@ module _ (f : Cnf) (reducers capacity : ℕ) (s : State) (k : IsInOrder f reduce
                 (Learn c hints lbd offered) record { clause = c; hints = hints } refl d got in
                 subst (λ z. 2 ≤ length z) same (ok.able.2 is)),
           ))
-          (among-cases (λ (i : Item). i.id) q (base (nat_eq (length s.work) capacity)) (item ∷ []) h)
-      work-from false is q h = inl h
+          (among-cases (λ (i : Item). i.id) q (base (nat_eq (length s.work) capacity)) (item ∷ []) there)
+      work-from false is q there = inl there
 
       work-apart : (b : Bool) → IsApart (λ (i : Item). i.id)
           (if b then base (nat_eq (length s.work) capacity) ++ item ∷ [] else s.work)
       work-apart true = apart-push (λ (i : Item). i.id) (base (nat_eq (length s.work) capacity)) item
           (base-is (nat_eq (length s.work) capacity))
           (false_from_ne_true (in_work s.next (base (nat_eq (length s.work) capacity)))
-          (λ h. not-both (in_work s.next s.work) (base-in (nat_eq (length s.work) capacity) s.next h)
+          (λ there. not-both (in_work s.next s.work) (base-in (nat_eq (length s.work) capacity) s.next there)
           (next-not-work f reducers capacity s k Close)))
       work-apart false = k.work_apart
   changed (entry.Unit actor lit hints) ok =
@@ -254,7 +254,7 @@ module _ (f : Cnf) (reducers capacity : ℕ) (s : State) (k : IsInOrder f reduce
             (s.results ++ (if nat_lt 0 z then record { old = None; id = s.next } ∷ [] else [])) ≡ false) (sym at_zero)
             (not-in-results q (subst (λ z. in_results z s.results ≡ false) same
             (next-not-results f reducers capacity s k e)));
-        work = λ q h. inl h;
+        work = λ q there. inl there;
         work_apart = k.work_apart;
         results = results-from e;
         results_apart = results-apart e;
@@ -272,15 +272,15 @@ module _ (f : Cnf) (reducers capacity : ℕ) (s : State) (k : IsInOrder f reduce
         actor = ok.able.1;
         gain_learnt = λ q is. stays-learnt f reducers capacity s k e q (k.work q (best-in s.work q is)).0;
         gain_new = λ q is. false_from_ne_true (has q (s.held actor))
-            (λ h. not-both (in_work q s.work) (best-in s.work q is) (k.work_free actor q ok.able.0 h));
-        gain_work = λ q is pos. false_from_ne_true (in_work q (work_after capacity s e)) (λ h.
-            let p = among-passes (λ (i : Item). i.id) (λ z. not (has z (option_to_list (best_id s)))) q s.work h in
+            (λ there. not-both (in_work q s.work) (best-in s.work q is) (k.work_free actor q ok.able.0 there));
+        gain_work = λ q is pos. false_from_ne_true (in_work q (work_after capacity s e)) (λ there.
+            let p = among-passes (λ (i : Item). i.id) (λ z. not (has z (option_to_list (best_id s)))) q s.work there in
             let t : has q (option_to_list (best_id s)) ≡ true = ap (λ o. has q (option_to_list o)) is
             ∙ or-first (nat_eq q q) false (same-number q) in
-            absurd (let z = ap not t in cc));
+            absurd (let fact = ap not t in cc));
         gain_results = λ q is at_zero. absurd (let p = ok.able.0 in omega arith);
-        work = λ q h. inl (among-filter (λ (i : Item). i.id)
-            (λ (i : Item). not (has i.id (option_to_list (best_id s)))) q s.work h);
+        work = λ q there. inl (among-filter (λ (i : Item). i.id)
+            (λ (i : Item). not (has i.id (option_to_list (best_id s)))) q s.work there);
         work_apart = apart-filter (λ (i : Item). i.id) (λ (i : Item). not (has i.id (option_to_list (best_id s))))
             s.work k.work_apart;
         results = results-from e;
@@ -298,7 +298,7 @@ module _ (f : Cnf) (reducers capacity : ℕ) (s : State) (k : IsInOrder f reduce
         gain_new = λ q is. absurd (cc);
         gain_work = λ q is pos. absurd (cc);
         gain_results = λ q is at_zero. absurd (cc);
-        work = λ q h. inl h;
+        work = λ q there. inl there;
         work_apart = k.work_apart;
         results = results-from e;
         results_apart = results-apart e;
@@ -320,7 +320,7 @@ module _ (f : Cnf) (reducers capacity : ℕ) (s : State) (k : IsInOrder f reduce
         gain_work = λ q is pos. let same : s.next ≡ q = cc in subst (λ z. in_work z s.work ≡ false) same
             (next-not-work f reducers capacity s k e);
         gain_results = λ q is at_zero. absurd (let p = ok.able.0 in omega arith);
-        work = λ q h. inl h;
+        work = λ q there. inl there;
         work_apart = k.work_apart;
         results = results-from e;
         results_apart = results-apart e;
@@ -334,16 +334,16 @@ module _ (f : Cnf) (reducers capacity : ℕ) (s : State) (k : IsInOrder f reduce
         actor = omega arith;
         gain_learnt = λ q is. stays-learnt f reducers capacity s k e q (k.results q (first-in s.results q is));
         gain_new = λ q is. false_from_ne_true (has q (s.held 0))
-            (λ h. not-both (in_results q s.results) (first-in s.results q is) (k.results_free q h));
+            (λ there. not-both (in_results q s.results) (first-in s.results q is) (k.results_free q there));
         gain_work = λ q is pos. absurd (omega arith);
         gain_results = λ q is at_zero. ap (in_results q) (append-nil (without_first s.results))
             ∙ first-apart s.results q k.results_apart is;
-        work = λ q h. inl h;
+        work = λ q there. inl there;
         work_apart = k.work_apart;
         results = results-from e;
         results_apart = results-apart e;
         old = old-fine e;
-        taken = λ q is. absurd (let z = k.idle in cc);
+        taken = λ q is. absurd (let fact = k.idle in cc);
         idle = λ _. k.idle;
         justified = λ x is. justified f reducers s e x ok is;
       }
@@ -354,12 +354,12 @@ module _ (f : Cnf) (reducers capacity : ℕ) (s : State) (k : IsInOrder f reduce
         gain_new = λ q is. absurd (cc);
         gain_work = λ q is pos. absurd (cc);
         gain_results = λ q is at_zero. absurd (cc);
-        work = λ q h. inl h;
+        work = λ q there. inl there;
         work_apart = k.work_apart;
         results = results-from e;
         results_apart = results-apart e;
         old = old-fine e;
-        taken = λ q is. absurd (let z = k.idle in cc);
+        taken = λ q is. absurd (let fact = k.idle in cc);
         idle = λ _. k.idle;
         justified = λ x is. justified f reducers s e x ok is;
       }
@@ -370,7 +370,7 @@ module _ (f : Cnf) (reducers capacity : ℕ) (s : State) (k : IsInOrder f reduce
         gain_new = λ q is. absurd (cc);
         gain_work = λ q is pos. absurd (cc);
         gain_results = λ q is at_zero. absurd (cc);
-        work = λ q h. inl h;
+        work = λ q there. inl there;
         work_apart = k.work_apart;
         results = results-from e;
         results_apart = results-apart e;
@@ -378,7 +378,7 @@ module _ (f : Cnf) (reducers capacity : ℕ) (s : State) (k : IsInOrder f reduce
         taken = λ q is. let t = k.taken actor q is in (
           still-held f reducers capacity s k e actor q t.0
               (λ _. false_from_ne_true (has q ids)
-              (λ h. all-has (λ id. s.taken actor ≢ Some id) ids q ok.able.4 h is)),
+              (λ there. all-has (λ id. s.taken actor ≢ Some id) ids q ok.able.4 there is)),
           stays-two f reducers capacity s k e q (k.held actor q t.0).below t.1,
         );
         idle = λ at_zero. ap s.taken at_zero ∙ k.idle;
@@ -391,12 +391,12 @@ module _ (f : Cnf) (reducers capacity : ℕ) (s : State) (k : IsInOrder f reduce
         gain_new = λ q is. absurd (cc);
         gain_work = λ q is pos. absurd (cc);
         gain_results = λ q is at_zero. absurd (cc);
-        work = λ q h. inl h;
+        work = λ q there. inl there;
         work_apart = k.work_apart;
         results = results-from e;
         results_apart = results-apart e;
         old = old-fine e;
-        taken = λ q is. absurd (let z = k.idle in cc);
+        taken = λ q is. absurd (let fact = k.idle in cc);
         idle = λ _. k.idle;
         justified = λ x is. justified f reducers s e x ok is;
       }

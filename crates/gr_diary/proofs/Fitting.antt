@@ -26,9 +26,9 @@ split-cons y d x before e (earlier rest same) = earlier rest (ap (λ (z : List E
 
 splits-at : (d : List Entry) (x : Entry) (before : List Entry) (e : Entry) (later : List Entry)
     → d ++ x ∷ [] ≡ before ++ e ∷ later → Split d x before e
-splits-at [] x [] e later same = at-end refl (let h : x ≡ e = cc in h)
-splits-at [] x (b ∷ bs) e later same = not-nil bs e later (let h : [] ≡ bs ++ e ∷ later = cc in h)
-splits-at (y ∷ ys) x [] e later same = earlier ys (let h : y ≡ e = cc in ap (λ z. z ∷ ys) h)
+splits-at [] x [] e later same = at-end refl (let same_tail : x ≡ e = cc in same_tail)
+splits-at [] x (b ∷ bs) e later same = not-nil bs e later (let same_tail : [] ≡ bs ++ e ∷ later = cc in same_tail)
+splits-at (y ∷ ys) x [] e later same = earlier ys (let same_tail : y ≡ e = cc in ap (λ z. z ∷ ys) same_tail)
 splits-at (y ∷ ys) x (b ∷ bs) e later same =
     let first : y ≡ b = cc in
     let rest : ys ++ x ∷ [] ≡ bs ++ e ∷ later = cc in

@@ -28,7 +28,7 @@ normal-by (l ∷ ls) passed =
 
     other : (q : Literal) → not (nat_eq q.index l.index) ≡ true → Other q
     other q passed same = let one : nat_eq q.index l.index ≡ true = grind (arith, nat_tests) in
-        let z = sym (ap not one) ∙ passed in cc z
+        let fact = sym (ap not one) ∙ passed in cc fact
 
 pub justified-by : (f : Cnf) (part : Part) (c : List Literal) (hints : List ℕ) → is_normal c ≡ true
     → list_all (λ l. nat_lt l.index f.vars) c ≡ true → list_all (λ id. is_some (part.cites id)) hints ≡ true

@@ -22,25 +22,25 @@ use Rattle.gr_diary.proofs.Changes.{changed}
 use Rattle.gr_diary.proofs.Sound.{after-MeetsLive}
 
 pub passing-first : (test : ℕ → Bool) (count first q : ℕ) → has q (passing test first count) ≡ true → first ≤ q
-passing-first test zero first q h = absurd (cc)
-passing-first test (suc count) first q h = pick (test first) h (passing-first test count (first + 1) q)
+passing-first test zero first q there = absurd (cc)
+passing-first test (suc count) first q there = pick (test first) there (passing-first test count (first + 1) q)
   where
     pick : (b : Bool) → has q (if b then first ∷ passing test (first + 1) count else passing test (first + 1) count)
         ≡ true → (has q (passing test (first + 1) count) ≡ true → first + 1 ≤ q) → first ≤ q
-    pick true h rest = ⊎_elim (λ u. let z = eqb-true q first u in omega arith) (λ u. let z = rest u in omega arith)
-        (or_cases (nat_eq q first) (has q (passing test (first + 1) count)) h)
-    pick false h rest = let z = rest h in omega arith
+    pick true there rest = ⊎_elim (λ u. let fact = eqb-true q first u in omega arith) (λ u. let fact = rest u in omega arith)
+        (or_cases (nat_eq q first) (has q (passing test (first + 1) count)) there)
+    pick false there rest = let fact = rest there in omega arith
 
 pub passing-test : (test : ℕ → Bool) (count first q : ℕ) → has q (passing test first count) ≡ true → test q ≡ true
-passing-test test zero first q h = absurd (cc)
-passing-test test (suc count) first q h = pick (test first) refl h (passing-test test count (first + 1) q)
+passing-test test zero first q there = absurd (cc)
+passing-test test (suc count) first q there = pick (test first) refl there (passing-test test count (first + 1) q)
   where
     pick : (b : Bool) → test first ≡ b
         → has q (if b then first ∷ passing test (first + 1) count else passing test (first + 1) count) ≡ true
         → (has q (passing test (first + 1) count) ≡ true → test q ≡ true) → test q ≡ true
-    pick true is h rest = ⊎_elim (λ u. ap test (eqb-true q first u) ∙ is) rest
-        (or_cases (nat_eq q first) (has q (passing test (first + 1) count)) h)
-    pick false is h rest = rest h
+    pick true is there rest = ⊎_elim (λ u. ap test (eqb-true q first u) ∙ is) rest
+        (or_cases (nat_eq q first) (has q (passing test (first + 1) count)) there)
+    pick false is there rest = rest there
 
 pub passing-in : (test : ℕ → Bool) (count first q : ℕ) → first ≤ q → q < first + count → test q ≡ true
     → has q (passing test first count) ≡ true
@@ -58,33 +58,33 @@ passing-in test (suc count) first q low high is = pick (test first) refl (nat_eq
     pick false here false same rest = rest (grind (arith, nat_tests)) (omega arith) is
 
 pub is_held-at : (held : ℕ → List ℕ) (n a q : ℕ) → a ≤ n → has q (held a) ≡ true → is_held held n q ≡ true
-is_held-at held zero a q le h = let z : a ≡ 0 = omega arith in subst (λ b. has q (held b) ≡ true) z h
-is_held-at held (suc n) a q le h =
-    ⊎_elim (λ lt. or-second (has q (held (suc n))) (is_held held n q) (is_held-at held n a q (omega arith) h))
-    (λ ge. let z : a ≡ suc n = omega arith in or-first (has q (held (suc n))) (is_held held n q)
-    (subst (λ b. has q (held b) ≡ true) z h)) (cases_lt a (suc n))
+is_held-at held zero a q le there = let fact : a ≡ 0 = omega arith in subst (λ b. has q (held b) ≡ true) fact there
+is_held-at held (suc n) a q le there =
+    ⊎_elim (λ lt. or-second (has q (held (suc n))) (is_held held n q) (is_held-at held n a q (omega arith) there))
+    (λ ge. let fact : a ≡ suc n = omega arith in or-first (has q (held (suc n))) (is_held held n q)
+    (subst (λ b. has q (held b) ≡ true) fact there)) (cases_lt a (suc n))
 
 module _ (f : Cnf) (reducers : ℕ) (s : State) (k : IsInOrder f reducers s) where
   pub held-holder : (a q : ℕ) → has q (s.held a) ≡ true → has_holder reducers s q ≡ true
-  held-holder a q h = ⊎_elim
-      (λ (lt : reducers < a). absurd (let z = k.beyond a lt in let y : has q [] ≡ true =
-      subst (λ xs. has q xs ≡ true) z h in cc))
+  held-holder a q there = ⊎_elim
+      (λ (lt : reducers < a). absurd (let none : has q [] ≡ true =
+      subst (λ xs. has q xs ≡ true) (k.beyond a lt) there in cc none))
       (λ (le : a ≤ reducers). or-first (is_held s.held reducers q) (in_work q s.work || in_results q s.results)
-      (is_held-at s.held reducers a q le h)) (cases_lt reducers a)
+      (is_held-at s.held reducers a q le there)) (cases_lt reducers a)
 
   pub work-holder : (q : ℕ) → in_work q s.work ≡ true → has_holder reducers s q ≡ true
-  work-holder q h = or-second (is_held s.held reducers q) (in_work q s.work || in_results q s.results)
-      (or-first (in_work q s.work) (in_results q s.results) h)
+  work-holder q there = or-second (is_held s.held reducers q) (in_work q s.work || in_results q s.results)
+      (or-first (in_work q s.work) (in_results q s.results) there)
 
   pub results-holder : (q : ℕ) → in_results q s.results ≡ true → has_holder reducers s q ≡ true
-  results-holder q h = or-second (is_held s.held reducers q) (in_work q s.work || in_results q s.results)
-      (or-second (in_work q s.work) (in_results q s.results) h)
+  results-holder q there = or-second (is_held s.held reducers q) (in_work q s.work || in_results q s.results)
+      (or-second (in_work q s.work) (in_results q s.results) there)
 
   -- ids that nobody holds leave
   module _ (ids : List ℕ) (free : (q : ℕ) → has q ids ≡ true → has_holder reducers s q ≡ false) where
     pub held-stays : (q : ℕ) → has_holder reducers s q ≡ true → map.get (without s.live ids) q ≡ map.get s.live q
-    held-stays q h = get-without ids s.live q ∙ ap (λ b. if b then None else map.get s.live q)
-        (false_from_ne_true (has q ids) (λ u. not-both (has_holder reducers s q) h (free q u)))
+    held-stays q there = get-without ids s.live q ∙ ap (λ b. if b then None else map.get s.live q)
+        (false_from_ne_true (has q ids) (λ u. not-both (has_holder reducers s q) there (free q u)))
 
     was-live : (q : ℕ) (c : List Literal) → map.get (without s.live ids) q ≡ Some c → map.get s.live q ≡ Some c
     was-live q c e = pick (has q ids) (sym (get-without ids s.live q) ∙ e)
@@ -102,7 +102,7 @@ module _ (f : Cnf) (reducers : ℕ) (s : State) (k : IsInOrder f reducers s) whe
 
     learnt-stays : (q : ℕ) → has_holder reducers s q ≡ true → IsLearnt f s q
         → IsLearnt f (record s { live = without s.live ids }) q
-    learnt-stays q h l = record { above = l.above; below = l.below; live = ap is_some (held-stays q h) ∙ l.live }
+    learnt-stays q there l = record { above = l.above; below = l.below; live = ap is_some (held-stays q there) ∙ l.live }
 
     two-stays : (q : ℕ) → HasTwo s q → HasTwo (record s { live = without s.live ids }) q
     two-stays q two c got = two c (was-live q c got)
@@ -110,12 +110,12 @@ module _ (f : Cnf) (reducers : ℕ) (s : State) (k : IsInOrder f reducers s) whe
     order-stays : IsInOrder f reducers (record s { live = without s.live ids })
     order-stays = record {
       next = k.next;
-      below = λ q h. k.below q (was-there q h);
+      below = λ q there. k.below q (was-there q there);
       beyond = k.beyond;
       idle = k.idle;
-      held = λ a q h. learnt-stays q (held-holder a q h) (k.held a q h);
-      work = λ q h. let w = k.work q h in (learnt-stays q (work-holder q h) w.0, two-stays q w.1);
-      results = λ q h. learnt-stays q (results-holder q h) (k.results q h);
+      held = λ a q there. learnt-stays q (held-holder a q there) (k.held a q there);
+      work = λ q there. let w = k.work q there in (learnt-stays q (work-holder q there) w.0, two-stays q w.1);
+      results = λ q there. learnt-stays q (results-holder q there) (k.results q there);
       taken = λ a q t. let w = k.taken a q t in (w.0, two-stays q w.1);
       held_apart = k.held_apart;
       work_apart = k.work_apart;
@@ -130,16 +130,16 @@ module _ (f : Cnf) (reducers : ℕ) (s : State) (k : IsInOrder f reducers s) whe
 pub left-free : (f : Cnf) (reducers capacity : ℕ) (s : State) (e : Entry) (q : ℕ)
     → has q (left_ids f reducers capacity s e) ≡ true → (length f.clauses < q)
     × (has_holder reducers (moved capacity s e) q ≡ false)
-left-free f reducers capacity s e q h = pick (adds_empty e) h
+left-free f reducers capacity s e q there = pick (adds_empty e) there
   where
     pick : (b : Bool) → has q (if b then [] else leaving f reducers (moved capacity s e)) ≡ true
         → (length f.clauses < q) × (has_holder reducers (moved capacity s e) q ≡ false)
-    pick true h = absurd (cc)
-    pick false h =
+    pick true there = absurd (cc)
+    pick false there =
         let first = passing-first (is_left reducers (moved capacity s e))
-        ((moved capacity s e).next - (length f.clauses + 1)) (length f.clauses + 1) q h in
+        ((moved capacity s e).next - (length f.clauses + 1)) (length f.clauses + 1) q there in
         let t = passing-test (is_left reducers (moved capacity s e))
-        ((moved capacity s e).next - (length f.clauses + 1)) (length f.clauses + 1) q h in (
+        ((moved capacity s e).next - (length f.clauses + 1)) (length f.clauses + 1) q there in (
           omega arith,
           not-true (has_holder reducers (moved capacity s e) q)
               (and_parts (map.contains_key (moved capacity s e).live q)
@@ -157,7 +157,7 @@ ended-after false r false false ended still = ap (λ b. b || false) (ended refl)
 pub kept : (f : Cnf) (reducers capacity : ℕ) (s : State) (e : Entry) → IsKept f reducers s → Allowed f reducers s e
     → IsKept f reducers (after f reducers capacity s e)
 kept f reducers capacity s e k ok = record {
-  order = order-stays f reducers (moved capacity s e) now ids (λ q h. (left-free f reducers capacity s e q h).1);
+  order = order-stays f reducers (moved capacity s e) now ids (λ q there. (left-free f reducers capacity s e q there).1);
   ended = λ still. ended-after s.closed s.refuted (is_close e) (adds_empty e) k.ended still;
   holders = λ open' q above live. holders open' q above live;
   inputs = λ q le. get-without ids (moved capacity s e).live q
@@ -184,7 +184,7 @@ kept f reducers capacity s e k ok = record {
         → has_holder reducers (moved capacity s e) q ≡ true
     holders unrefuted q above live = true_from_ne_false (has_holder reducers (moved capacity s e) q) (λ free.
         let there : map.contains_key (moved capacity s e).live q ≡ true =
-        was-there f reducers (moved capacity s e) now ids (λ q h. (left-free f reducers capacity s e q h).1) q
+        was-there f reducers (moved capacity s e) now ids (λ q there. (left-free f reducers capacity s e q there).1) q
         live in
         let below : q < (moved capacity s e).next = now.below q there in
         let out : has q ids ≡ true = ap (λ b. has q (if b then [] else leaving f reducers (moved capacity s e)))
@@ -208,14 +208,14 @@ all-kept f reducers capacity (e ∷ es) s k legal = all-kept f reducers capacity
 -- the input's ids are those up to the number of clauses
 inputs-below : (cs : List (List Literal)) (live : Clauses) (id q : ℕ) → map.contains_key (with_clauses live id cs) q
     ≡ true → ((map.contains_key live q ≡ true) ⊎ (q < id + length cs))
-inputs-below [] live id q h = inl h
-inputs-below (c ∷ cs) live id q h =
+inputs-below [] live id q there = inl there
+inputs-below (c ∷ cs) live id q there =
     ⊎_elim (λ u. pick (nat_eq q id) refl (sym (ap is_some (get-insert_at live id c q)) ∙ u)) (λ u. inr (omega arith))
-    (inputs-below cs (map.insert live id c) (id + 1) q h)
+    (inputs-below cs (map.insert live id c) (id + 1) q there)
   where
     pick : (b : Bool) → nat_eq q id ≡ b → is_some (if b then Some c else map.get live q) ≡ true
         → (map.contains_key live q ≡ true) ⊎ (q < id + length (c ∷ cs))
-    pick true is u = let z = eqb-true q id is in inr (omega arith)
+    pick true is u = let fact = eqb-true q id is in inr (omega arith)
     pick false is u = inl u
 
 pub begins-kept : (f : Cnf) (reducers : ℕ) → IsKept f reducers (initial_state f)
@@ -225,25 +225,25 @@ begins-kept f reducers = record {
     below = below;
     beyond = λ a lt. refl;
     idle = refl;
-    held = λ a q h. absurd (cc);
-    work = λ q h. absurd (cc);
-    results = λ q h. absurd (cc);
+    held = λ a q there. absurd (cc);
+    work = λ q there. absurd (cc);
+    results = λ q there. absurd (cc);
     taken = λ a q t. absurd (cc);
     held_apart = λ a. tt;
     work_apart = tt;
     results_apart = tt;
-    work_free = λ a q pos h. refl;
-    results_free = λ q h. refl;
-    normal = λ q c lt got. absurd (let z = below q (ap is_some got) in omega arith);
+    work_free = λ a q pos there. refl;
+    results_free = λ q there. refl;
+    normal = λ q c lt got. absurd (let fact = below q (ap is_some got) in omega arith);
     old = Rattle.std.proofs.lemmas.List.Elements.All-nil (OldIsFine f (initial_state f));
   };
   ended = λ _. refl;
-  holders = λ _ q lt h. absurd (let z = below q h in omega arith);
+  holders = λ _ q lt there. absurd (let fact = below q there in omega arith);
   inputs = λ q le. refl;
   implied = λ a meets. with_clauses-MeetsLive a f.clauses map.empty 1 (empty-MeetsLive a) meets;
 }
   where
     below : (q : ℕ) → map.contains_key (with_clauses map.empty 1 f.clauses) q ≡ true → q < length f.clauses + 1
-    below q h = ⊎_elim (λ (u : map.contains_key (map.empty {X = List Literal}) q ≡ true). absurd
-        (let z = ap is_some (map.get-empty {X = List Literal} Rattle.std.specs.Ordering.nat_cmp q) in cc))
-        (λ u. omega arith) (inputs-below f.clauses map.empty 1 q h)
+    below q there = ⊎_elim (λ (u : map.contains_key (map.empty {X = List Literal}) q ≡ true). absurd
+        (let fact = ap is_some (map.get-empty {X = List Literal} Rattle.std.specs.Ordering.nat_cmp q) in cc))
+        (λ u. omega arith) (inputs-below f.clauses map.empty 1 q there)

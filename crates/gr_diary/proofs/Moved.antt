@@ -46,10 +46,10 @@ next-grows s (Some a) = omega arith
 
 module _ (f : Cnf) (reducers capacity : ℕ) (s : State) (k : IsInOrder f reducers s) (e : Entry) where
   pub stays-learnt : (q : ℕ) → IsLearnt f s q → IsLearnt f (moved capacity s e) q
-  stays-learnt q h = record {
-    above = h.above;
-    below = let l = next-grows s (addition_of e) in let b = h.below in omega arith;
-    live = ap is_some (get-grown f reducers s k (addition_of e) q h.live) ∙ h.live;
+  stays-learnt q there = record {
+    above = there.above;
+    below = let l = next-grows s (addition_of e) in let b = there.below in omega arith;
+    live = ap is_some (get-grown f reducers s k (addition_of e) q there.live) ∙ there.live;
   }
 
   pub stays-two : (q : ℕ) → q < s.next → HasTwo s q → HasTwo (moved capacity s e) q
@@ -70,40 +70,40 @@ module _ (f : Cnf) (reducers capacity : ℕ) (s : State) (k : IsInOrder f reduce
 
   pub new-clause : (a : Addition) → addition_of e ≡ Some a → (c : List Literal)
       → map.get (moved capacity s e).live s.next ≡ Some c → a.clause ≡ c
-  new-clause a is c got = let h = subst (λ o. map.get (live_grown s o) s.next ≡ Some c) is got in
+  new-clause a is c got = let there = subst (λ o. map.get (live_grown s o) s.next ≡ Some c) is got in
       let t = get-new s.live s.next a.clause in cc
 
   -- the new id is nowhere yet
   pub next-not-held : (a : ℕ) → has s.next (s.held a) ≡ false
-  next-not-held a = false_from_ne_true (has s.next (s.held a)) (λ h. let l = (k.held a s.next h).below in
+  next-not-held a = false_from_ne_true (has s.next (s.held a)) (λ there. let l = (k.held a s.next there).below in
       absurd (omega arith))
 
   pub next-not-work : in_work s.next s.work ≡ false
-  next-not-work = false_from_ne_true (in_work s.next s.work) (λ h. let l = (k.work s.next h).0.below in
+  next-not-work = false_from_ne_true (in_work s.next s.work) (λ there. let l = (k.work s.next there).0.below in
       absurd (omega arith))
 
   pub next-not-results : in_results s.next s.results ≡ false
-  next-not-results = false_from_ne_true (in_results s.next s.results) (λ h. let l = (k.results s.next h).below in
+  next-not-results = false_from_ne_true (in_results s.next s.results) (λ there. let l = (k.results s.next there).below in
       absurd (omega arith))
 
   -- who holds an id after the entry held it, or gained it
   pub held-cases : (a q : ℕ) → has q (held_after s e a) ≡ true → (has q (s.held a) ≡ true)
       ⊎ ((a ≡ actor_of e) × (gained s e ≡ Some q))
-  held-cases a q h = pick (nat_eq a (actor_of e)) refl h
+  held-cases a q there = pick (nat_eq a (actor_of e)) refl there
     where
       pick : (b : Bool) → nat_eq a (actor_of e) ≡ b
           → has q (if b then filter (λ id. not (has id (dropped s e))) (s.held a) ++ option_to_list (gained s e)
           else s.held a) ≡ true → (has q (s.held a) ≡ true) ⊎ ((a ≡ actor_of e) × (gained s e ≡ Some q))
-      pick true is h = ⊎_elim (λ u. inl (among-filter (λ x. x) (λ id. not (has id (dropped s e))) q (s.held a) u))
+      pick true is there = ⊎_elim (λ u. inl (among-filter (λ x. x) (λ id. not (has id (dropped s e))) q (s.held a) u))
           (λ u. inr (eqb-true a (actor_of e) is, has-option q (gained s e) u))
           (among-cases (λ x. x) q (filter (λ id. not (has id (dropped s e))) (s.held a))
-          (option_to_list (gained s e)) h)
-      pick false is h = inl h
+          (option_to_list (gained s e)) there)
+      pick false is there = inl there
 
   -- what is held and not dropped stays held
   pub still-held : (a q : ℕ) → has q (s.held a) ≡ true → (a ≡ actor_of e → has q (dropped s e) ≡ false)
       → has q (held_after s e a) ≡ true
-  still-held a q h keeps = pick (nat_eq a (actor_of e)) refl
+  still-held a q there keeps = pick (nat_eq a (actor_of e)) refl
     where
       pick : (b : Bool) → nat_eq a (actor_of e) ≡ b
           → has q (if b then filter (λ id. not (has id (dropped s e))) (s.held a) ++ option_to_list (gained s e)
@@ -113,8 +113,8 @@ module _ (f : Cnf) (reducers capacity : ℕ) (s : State) (k : IsInOrder f reduce
           ∙ or-first (has q (filter (λ id. not (has id (dropped s e))) (s.held a)))
           (has q (option_to_list (gained s e)))
           (among-kept (λ x. x) (λ id. not (has id (dropped s e))) q (s.held a)
-          (ap not (keeps (eqb-true a (actor_of e) is))) h)
-      pick false is = h
+          (ap not (keeps (eqb-true a (actor_of e) is))) there)
+      pick false is = there
 
   pub gain-held : (q : ℕ) → gained s e ≡ Some q → has q (held_after s e (actor_of e)) ≡ true
   gain-held q is =
@@ -146,7 +146,7 @@ module _ (f : Cnf) (reducers capacity : ℕ) (s : State) (k : IsInOrder f reduce
     pub justified : (a : Addition) → addition_of e ≡ Some a → IsJustified f (part_of f s (actor_of e)) a.clause a.hints
 
   below-held : (a q : ℕ) → has q (s.held a) ≡ true → q < s.next
-  below-held a q h = (k.held a q h).below
+  below-held a q there = (k.held a q there).below
 
   held-apart : Change → (a : ℕ) → IsApart (λ x. x) (held_after s e a)
   held-apart ch a = pick (nat_eq a (actor_of e)) refl (gained s e) refl
@@ -161,33 +161,33 @@ module _ (f : Cnf) (reducers capacity : ℕ) (s : State) (k : IsInOrder f reduce
           apart-push (λ x. x) (filter (λ id. not (has id (dropped s e))) (s.held a)) q
           (apart-filter (λ x. x) (λ id. not (has id (dropped s e))) (s.held a) (k.held_apart a))
           (false_from_ne_true (has q (filter (λ id. not (has id (dropped s e))) (s.held a)))
-          (λ h. not-both (has q (s.held a))
-          (among-filter (λ x. x) (λ id. not (has id (dropped s e))) q (s.held a) h)
+          (λ there. not-both (has q (s.held a))
+          (among-filter (λ x. x) (λ id. not (has id (dropped s e))) q (s.held a) there)
           (ap (λ z. has q (s.held z)) (eqb-true a (actor_of e) is) ∙ ch.gain_new q g)))
       pick false is o g = k.held_apart a
 
   held-learnt : Change → (a q : ℕ) → has q (held_after s e a) ≡ true → IsLearnt f (moved capacity s e) q
-  held-learnt ch a q h = ⊎_elim (λ u. stays-learnt q (k.held a q u)) (λ u. ch.gain_learnt q u.1) (held-cases a q h)
+  held-learnt ch a q there = ⊎_elim (λ u. stays-learnt q (k.held a q u)) (λ u. ch.gain_learnt q u.1) (held-cases a q there)
 
   held-beyond : Change → (a : ℕ) → reducers < a → held_after s e a ≡ []
   held-beyond ch a lt = let l = ch.actor in let other : nat_eq a (actor_of e) ≡ false = grind (arith, nat_tests) in
       rw other (k.beyond a lt)
 
   work-free : Change → (a q : ℕ) → 0 < a → has q (held_after s e a) ≡ true → in_work q (work_after capacity s e) ≡ false
-  work-free ch a q pos h = false_from_ne_true (in_work q (work_after capacity s e)) (λ w. ⊎_elim
+  work-free ch a q pos there = false_from_ne_true (in_work q (work_after capacity s e)) (λ w. ⊎_elim
       (λ (u : has q (s.held a) ≡ true). ⊎_elim (λ v. not-both (in_work q s.work) v (k.work_free a q pos u))
       (λ (v : (q ≡ s.next) × IsLearnt f (moved capacity s e) s.next × HasTwo (moved capacity s e) s.next). let l =
-      below-held a q u in let z = v.0 in absurd (omega arith)) (ch.work q w))
+      below-held a q u in let fact = v.0 in absurd (omega arith)) (ch.work q w))
       (λ (u : (a ≡ actor_of e) × (gained s e ≡ Some q)). not-both (in_work q (work_after capacity s e)) w
-      (ch.gain_work q u.1 (subst (λ n. 0 < n) u.0 pos))) (held-cases a q h))
+      (ch.gain_work q u.1 (subst (λ n. 0 < n) u.0 pos))) (held-cases a q there))
 
   results-free : Change → (q : ℕ) → has q (held_after s e 0) ≡ true → in_results q (results_after s e) ≡ false
-  results-free ch q h = false_from_ne_true (in_results q (results_after s e)) (λ w. ⊎_elim
+  results-free ch q there = false_from_ne_true (in_results q (results_after s e)) (λ w. ⊎_elim
       (λ (u : has q (s.held 0) ≡ true). ⊎_elim (λ v. not-both (in_results q s.results) v (k.results_free q u))
-      (λ (v : (q ≡ s.next) × IsLearnt f (moved capacity s e) s.next). let l = below-held 0 q u in let z = v.0 in
+      (λ (v : (q ≡ s.next) × IsLearnt f (moved capacity s e) s.next). let l = below-held 0 q u in let fact = v.0 in
       absurd (omega arith)) (ch.results q w))
       (λ (u : (0 ≡ actor_of e) × (gained s e ≡ Some q)). not-both (in_results q (results_after s e)) w
-      (ch.gain_results q u.1 (sym u.0))) (held-cases 0 q h))
+      (ch.gain_results q u.1 (sym u.0))) (held-cases 0 q there))
 
   taken-fine : Change → (a q : ℕ) → taken_after s e a ≡ Some q → (has q (held_after s e a) ≡ true)
       × HasTwo (moved capacity s e) q
@@ -198,24 +198,24 @@ module _ (f : Cnf) (reducers capacity : ℕ) (s : State) (k : IsInOrder f reduce
       pick true is t = subst (λ z. (has q (held_after s e z) ≡ true) × HasTwo (moved capacity s e) q)
           (sym (eqb-true a (actor_of e) is)) (ch.taken q t)
       pick false is t =
-          let h = k.taken a q t in (
-            still-held a q h.0 (λ same. absurd (let n : nat_eq a a ≡ false = ap (λ z. nat_eq a z) same ∙ is in
+          let there = k.taken a q t in (
+            still-held a q there.0 (λ same. absurd (let n : nat_eq a a ≡ false = ap (λ z. nat_eq a z) same ∙ is in
                 let m = same-number a in cc)),
-            stays-two q (below-held a q h.0) h.1,
+            stays-two q (below-held a q there.0) there.1,
           )
 
   pub in-order : Change → IsInOrder f reducers (moved capacity s e)
   in-order ch = record {
     next = let l = next-grows s (addition_of e) in let m = k.next in omega arith;
-    below = λ q h. live-below (addition_of e) q h;
+    below = λ q there. live-below (addition_of e) q there;
     beyond = held-beyond ch;
     idle = idle-after (nat_eq 0 (actor_of e)) refl;
     held = held-learnt ch;
-    work = λ q h. ⊎_elim (λ u. let w = k.work q u in (stays-learnt q w.0, stays-two q w.0.below w.1))
+    work = λ q there. ⊎_elim (λ u. let w = k.work q u in (stays-learnt q w.0, stays-two q w.0.below w.1))
         (λ u. subst (λ z. IsLearnt f (moved capacity s e) z × HasTwo (moved capacity s e) z) (sym u.0) (u.1, u.2))
-        (ch.work q h);
-    results = λ q h. ⊎_elim (λ u. stays-learnt q (k.results q u))
-        (λ u. subst (IsLearnt f (moved capacity s e)) (sym u.0) u.1) (ch.results q h);
+        (ch.work q there);
+    results = λ q there. ⊎_elim (λ u. stays-learnt q (k.results q u))
+        (λ u. subst (IsLearnt f (moved capacity s e)) (sym u.0) u.1) (ch.results q there);
     taken = taken-fine ch;
     held_apart = held-apart ch;
     work_apart = ch.work_apart;
@@ -230,14 +230,14 @@ module _ (f : Cnf) (reducers capacity : ℕ) (s : State) (k : IsInOrder f reduce
   }
     where
       live-below : (o : Option Addition) (q : ℕ) → map.contains_key (live_grown s o) q ≡ true → q < next_after s o
-      live-below None q h = k.below q h
-      live-below (Some a) q h = pick (nat_eq q s.next) refl (sym (ap is_some (get-insert_at s.live s.next a.clause q))
-          ∙ h)
+      live-below None q there = k.below q there
+      live-below (Some a) q there = pick (nat_eq q s.next) refl (sym (ap is_some (get-insert_at s.live s.next a.clause q))
+          ∙ there)
         where
           pick : (b : Bool) → nat_eq q s.next ≡ b → is_some (if b then Some a.clause else map.get s.live q) ≡ true
               → q < s.next + 1
-          pick true is h = let z = eqb-true q s.next is in omega arith
-          pick false is h = let z = k.below q h in omega arith
+          pick true is there = let fact = eqb-true q s.next is in omega arith
+          pick false is there = let fact = k.below q there in omega arith
 
       idle-after : (b : Bool) → nat_eq 0 (actor_of e) ≡ b → (if b then taken_of s e else s.taken 0) ≡ None
       idle-after true is = ch.idle (sym (eqb-true 0 (actor_of e) is))

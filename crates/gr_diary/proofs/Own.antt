@@ -42,15 +42,15 @@ other-part f reducers capacity s e a k ok other =
 
     free : (q : ℕ) → has q (left_ids f reducers capacity s e) ≡ true → has_holder reducers (moved capacity s e) q
         ≡ false
-    free q h = (left-free f reducers capacity s e q h).1
+    free q there = (left-free f reducers capacity s e q there).1
 
     -- a clause that the actor may cite stays
     held-clause : (id : ℕ) → has id (s.held a) ≡ true → map.get (after f reducers capacity s e).live id
         ≡ map.get s.live id
-    held-clause id h =
+    held-clause id there =
         held-stays f reducers (moved capacity s e) now (left_ids f reducers capacity s e) free id
-        (held-holder f reducers (moved capacity s e) now a id (subst (λ xs. has id xs ≡ true) (sym same) h))
-        ∙ get-grown f reducers s k.order (addition_of e) id (k.order.held a id h).live
+        (held-holder f reducers (moved capacity s e) now a id (subst (λ xs. has id xs ≡ true) (sym same) there))
+        ∙ get-grown f reducers s k.order (addition_of e) id (k.order.held a id there).live
 
     input-clause : (id : ℕ) → id ≤ length f.clauses → map.get (after f reducers capacity s e).live id
         ≡ map.get s.live id
@@ -61,10 +61,10 @@ other-part f reducers capacity s e a k ok other =
         (after f reducers capacity s e).live id else None) same ∙ pick (nat_le id (length f.clauses)) refl
         (has id (s.held a)) refl
       where
-        pick : (b : Bool) → nat_le id (length f.clauses) ≡ b → (h : Bool) → has id (s.held a) ≡ h
-            → (if b || h then map.get (after f reducers capacity s e).live id else None)
-            ≡ (if b || h then map.get s.live id else None)
-        pick true low h is = input-clause id (leb-true id (length f.clauses) low)
+        pick : (b : Bool) → nat_le id (length f.clauses) ≡ b → (holds : Bool) → has id (s.held a) ≡ holds
+            → (if b || holds then map.get (after f reducers capacity s e).live id else None)
+            ≡ (if b || holds then map.get s.live id else None)
+        pick true low holds is = input-clause id (leb-true id (length f.clauses) low)
         pick false low true is = held-clause id is
         pick false low false is = refl
 
@@ -80,8 +80,8 @@ others-part f reducers capacity (e ∷ es) s a k legal none_own =
   where
     no-first : (b : Bool) → nat_eq (actor_of e) a ≡ b → cond b (e ∷ entries_of es a) (entries_of es a) ≡ []
         → (nat_eq (actor_of e) a ≡ false) × (entries_of es a ≡ [])
-    no-first true is h = absurd (cc)
-    no-first false is h = (is, h)
+    no-first true is none = absurd (cc)
+    no-first false is none = (is, none)
 
 pub legal-parts : (f : Cnf) (reducers capacity : ℕ) (xs ys : List Entry) (s : State)
     → IsLegalFrom f reducers capacity s (xs ++ ys) → IsLegalFrom f reducers capacity s xs
@@ -132,10 +132,10 @@ enabled-stays f reducers capacity d e x seen =
 -- what is held is there, and is what the live map has
 held-there : (f : Cnf) (reducers : ℕ) (s : State) (a id : ℕ) → IsKept f reducers s → has id (s.held a) ≡ true
     → IsSome (held_in (part_of f s a) id) × (map.get s.live id ≡ held_in (part_of f s a) id)
-held-there f reducers s a id k h =
+held-there f reducers s a id k there =
     let chosen : held_in (part_of f s a) id ≡ map.get s.live id = pick (nat_le id (length f.clauses))
-    (has id (s.held a)) h in
-    (ap is_some chosen ∙ (k.order.held a id h).live, sym chosen)
+    (has id (s.held a)) there in
+    (ap is_some chosen ∙ (k.order.held a id there).live, sym chosen)
   where
     pick : (low b : Bool) → b ≡ true
         → (if b then (if low || b then map.get s.live id else None) else None) ≡ map.get s.live id
@@ -145,11 +145,11 @@ held-there f reducers s a id k h =
     pick false false e = absurd (cc)
 
 pub held-clauses-are-live : HeldClausesAreLive
-held-clauses-are-live f reducers capacity a d e seen id h =
+held-clauses-are-live f reducers capacity a d e seen id there =
     let same = seen-part f reducers capacity a d e seen in
     let k = all-kept f reducers capacity e (initial_state f) (begins-kept f reducers) seen.legal_later in
     let there = held-there f reducers (state_of f reducers capacity e) a id k
-    (subst (λ (p : Part). has id p.held ≡ true) same h) in
+    (subst (λ (p : Part). has id p.held ≡ true) same there) in
     (subst (λ (p : Part). IsSome (held_in p id)) (sym same) there.0, there.1 ∙ ap (λ p. held_in p id) (sym same))
 
 pub others-keep-held : OthersKeepHeld

@@ -123,7 +123,7 @@ others-are : AreThese others pairs.clauses
 others-are P all id c is = pick (nat_eq id 5) refl (nat_le id 3) refl is
   where
     same : (d : List Literal) → option_map members (Some d) ≡ Some c → c ≡ members d
-    same d e = let z : members d ≡ c = cc e in sym z
+    same d e = let fact : members d ≡ c = cc e in sym fact
 
     rest : All P ((plus 3 ∷ plus 4 ∷ []) ∷ (plus 5 ∷ plus 6 ∷ []) ∷ [])
     rest = All-tail P short ((plus 3 ∷ plus 4 ∷ []) ∷ (plus 5 ∷ plus 6 ∷ []) ∷ []) all
@@ -338,9 +338,9 @@ pub shorter-is-not-same : ShorterIsNotSame
 shorter-is-not-same legal =
     let able : IsAble pairs 1 part6 (Return 1 Same) = subst (λ p. IsAble pairs 1 p (Return 1 Same))
     (sym (part-looks pairs state6 look5 1 looks6)) legal.1.1.1.1.1.1.0.able in
-    let same : able.2 ≡ 5 = let z = able.4 in cc z in
+    let same : able.2 ≡ 5 = let fact = able.4 in cc fact in
     let cited : look5 5 ≡ Some able.3 = sym (ap part6.cites same) ∙ able.5 in
-    let clause : able.3 ≡ whole = let z : whole ≡ able.3 = cc cited in sym z in
+    let clause : able.3 ≡ whole = let fact : whole ≡ able.3 = cc cited in sym fact in
     let keeps : KeepsAll others whole = subst (λ d. KeepsAll others d) clause
     (subst (λ id. KeepsAll (others_of part6 id) able.3) same able.7) in
     let kept : keeps.0 ≡ short = greedy-unique others whole keeps.0 short keeps.1 keeps-short in

@@ -33,7 +33,7 @@ taken-clause f reducers capacity s e a id k ok there now =
     let order : IsInOrder f reducers (moved capacity s e) = in-order f reducers capacity s k.order e
     (changed f reducers capacity s k.order e ok) in
     held-stays f reducers (moved capacity s e) order (left_ids f reducers capacity s e)
-    (λ q h. (left-free f reducers capacity s e q h).1) id
+    (λ q there. (left-free f reducers capacity s e q there).1) id
     (held-holder f reducers (moved capacity s e) order a id (order.taken a id now).0)
     ∙ get-grown f reducers s k.order (addition_of e) id there
 
@@ -45,7 +45,7 @@ was-taken s e a id other now = pick (nat_eq a (actor_of e)) refl now
     own : (x : Entry) → is_take_of (actor_of x) x ≡ false → taken_of s x ≡ Some id → s.taken (actor_of x) ≡ Some id
     own (Learn c hints lbd offered) other t = t
     own (entry.Unit actor lit hints) other t = t
-    own (Take actor) other t = absurd (let z = same-number actor in cc)
+    own (Take actor) other t = absurd (let fact = same-number actor in cc)
     own (Return actor outcome) other t = absurd (cc)
     own Import other t = t
     own Drained other t = t

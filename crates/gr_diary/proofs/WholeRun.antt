@@ -311,5 +311,5 @@ pub units-come-first : UnitsComeFirst
 units-come-first legal =
     let able : IsAble chain 1 part2 (Return 1 Same) = subst (λ p. IsAble chain 1 p (Return 1 Same))
     (sym (part-looks chain state2 look1 1 looks2)) legal.1.1.0.able in
-    let same : able.2 ≡ 4 = let z = able.4 in cc z in
+    let same : able.2 ≡ 4 = let fact = able.4 in cc fact in
     no-unit-yet (subst (λ id. HasItsUnits (others_of part2 id)) same able.6)
