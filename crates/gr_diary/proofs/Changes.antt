@@ -17,6 +17,7 @@ use Rattle.gr_diary.specs.Rules.{Allowed}
 use Rattle.gr_diary.specs.Invariant.{IsApart, IsLearnt, HasTwo, OldIsFine, IsInOrder}
 use Rattle.gr_diary.proofs.Among.{same-number, or-second, or-first, not-both, among-cases, among-filter, among-passes, apart-filter, apart-push, among-rest, apart-rest, among-one}
 use Rattle.gr_diary.proofs.Lines.{justified}
+use Rattle.gr_diary.proofs.ResultLists.{first-in, first-apart, results-from, results-apart, old-fine}
 use Rattle.gr_diary.proofs.Moved.{Change, stays-learnt, stays-two, new-learnt, new-clause, next-not-held, next-not-work, next-not-results, still-held, gain-held, next-grows}
 
 -- the best item is one of the list
@@ -37,16 +38,6 @@ best-in [] q e = absurd (cc)
 best-in (x ∷ xs) q e = let same : (best_from x xs).id ≡ q = cc in subst (λ z. in_work z (x ∷ xs) ≡ true) same
     (best_from-in xs x)
 
-first-in : (rs : List Outcome) (q : ℕ) → first_result rs ≡ Some q → in_results q rs ≡ true
-first-in [] q e = absurd (cc)
-first-in (r ∷ rs) q e = let same : r.id ≡ q = cc in or-first (nat_eq q r.id) (in_results q rs)
-    (ap (nat_eq q) same ∙ same-number q)
-
-first-apart : (rs : List Outcome) (q : ℕ) → IsApart (λ (r : Outcome). r.id) rs → first_result rs ≡ Some q
-    → in_results q (without_first rs) ≡ false
-first-apart [] q there e = absurd (cc)
-first-apart (r ∷ rs) q there e = let same : r.id ≡ q = cc in subst (λ z. in_results z rs ≡ false) same there.0
-
 all-has : (P : ℕ → Type 0) (ids : List ℕ) (q : ℕ) → All P ids → has q ids ≡ true → P q
 all-has P [] q all there = absurd (cc)
 all-has P (x ∷ xs) q all there = pick (nat_eq q x) refl there (all-has P xs q (All-tail P x xs all))
@@ -56,126 +47,6 @@ all-has P (x ∷ xs) q all there = pick (nat_eq q x) refl there (all-has P xs q 
     pick false is there rest = rest there
 
 module _ (f : Cnf) (reducers capacity : ℕ) (s : State) (k : IsInOrder f reducers s) where
-  result-new : (e : Entry) (q : ℕ) → in_results q (result_of s e) ≡ true
-      → (q ≡ s.next) × IsLearnt f (moved capacity s e) s.next
-  result-new (Learn c hints lbd offered) q there = absurd (cc)
-  result-new (entry.Unit actor lit hints) q there = (
-    pick (nat_lt 0 actor) there,
-    new-learnt f reducers capacity s k (entry.Unit actor lit hints) record {
-      clause =
-          lit ∷ [];
-      hints = hints;
-    } refl,
-  )
-    where
-      pick : (b : Bool) → in_results q (if b then record { old = None; id = s.next } ∷ [] else []) ≡ true → q ≡ s.next
-      pick true there = among-one (λ (r : Outcome). r.id) q record { old = None; id = s.next } there
-      pick false there = absurd (cc)
-  result-new (Take actor) q there = absurd (cc)
-  result-new (Return actor Same) q there = absurd (cc)
-  result-new (Return actor (Shorter c hints)) q there = (
-    among-one (λ (r : Outcome). r.id) q record { old = s.taken actor; id = s.next } there,
-    new-learnt f reducers capacity s k (Return actor (Shorter c hints)) record { clause = c; hints = hints } refl,
-  )
-  result-new Import q there = absurd (cc)
-  result-new Drained q there = absurd (cc)
-  result-new (Forget actor ids) q there = absurd (cc)
-  result-new Close q there = absurd (cc)
-
-  result-shape : (e : Entry) → (result_of s e ≡ []) ⊎ ((r : Outcome) × (result_of s e ≡ r ∷ []) × (r.id ≡ s.next))
-  result-shape (Learn c hints lbd offered) = inl refl
-  result-shape (entry.Unit actor lit hints) = pick (nat_lt 0 actor)
-    where
-      one : Outcome
-      one = record { old = None; id = s.next }
-
-      pick : (b : Bool) → ((if b then one ∷ [] else []) ≡ [])
-          ⊎ ((r : Outcome) × ((if b then one ∷ [] else []) ≡ r ∷ []) × (r.id ≡ s.next))
-      pick true = inr (one, refl, refl)
-      pick false = inl refl
-  result-shape (Take actor) = inl refl
-  result-shape (Return actor Same) = inl refl
-  result-shape (Return actor (Shorter c hints)) = inr (record { old = s.taken actor; id = s.next }, refl, refl)
-  result-shape Import = inl refl
-  result-shape Drained = inl refl
-  result-shape (Forget actor ids) = inl refl
-  result-shape Close = inl refl
-
-  result-old : (e : Entry) → All (OldIsFine f (moved capacity s e)) (result_of s e)
-  result-old (Learn c hints lbd offered) = All-nil (OldIsFine f (moved capacity s (Learn c hints lbd offered)))
-  result-old (entry.Unit actor lit hints) = pick (nat_lt 0 actor)
-    where
-      pick : (b : Bool) → All (OldIsFine f (moved capacity s (entry.Unit actor lit hints)))
-          (if b then record { old = None; id = s.next } ∷ [] else [])
-      pick true = All-cons (OldIsFine f (moved capacity s (entry.Unit actor lit hints))) record {
-        old = None;
-        id = s.next;
-      } [] (λ id is. absurd (cc))
-          (All-nil (OldIsFine f (moved capacity s (entry.Unit actor lit hints))))
-      pick false = All-nil (OldIsFine f (moved capacity s (entry.Unit actor lit hints)))
-  result-old (Take actor) = All-nil (OldIsFine f (moved capacity s (Take actor)))
-  result-old (Return actor Same) = All-nil (OldIsFine f (moved capacity s (Return actor Same)))
-  result-old (Return actor (Shorter c hints)) =
-      All-cons (OldIsFine f (moved capacity s (Return actor (Shorter c hints)))) record {
-        old = s.taken actor;
-        id = s.next;
-      } []
-      (λ id is. let t = k.taken actor id is in let l = k.held actor id t.0 in let b = l.below in
-      (l.above, omega arith, stays-two f reducers capacity s k (Return actor (Shorter c hints)) id b t.1))
-      (All-nil (OldIsFine f (moved capacity s (Return actor (Shorter c hints)))))
-  result-old Import = All-nil (OldIsFine f (moved capacity s Import))
-  result-old Drained = All-nil (OldIsFine f (moved capacity s Drained))
-  result-old (Forget actor ids) = All-nil (OldIsFine f (moved capacity s (Forget actor ids)))
-  result-old Close = All-nil (OldIsFine f (moved capacity s Close))
-
-  base-among : (b : Bool) (q : ℕ) → in_results q (if b then without_first s.results else s.results) ≡ true
-      → in_results q s.results ≡ true
-  base-among true q there = among-rest (λ (r : Outcome). r.id) q s.results there
-  base-among false q there = there
-
-  base-apart : (b : Bool) → IsApart (λ (r : Outcome). r.id) (if b then without_first s.results else s.results)
-  base-apart true = apart-rest (λ (r : Outcome). r.id) s.results k.results_apart
-  base-apart false = k.results_apart
-
-  rest-All : (P : Outcome → Type 0) (rs : List Outcome) → All P rs → All P (without_first rs)
-  rest-All P [] there = there
-  rest-All P (r ∷ rs) there = All-tail P r rs there
-
-  base-old : (b : Bool) → All (OldIsFine f s) (if b then without_first s.results else s.results)
-  base-old true = rest-All (OldIsFine f s) s.results k.old
-  base-old false = k.old
-
-  results-from : (e : Entry) (q : ℕ) → in_results q (results_after s e) ≡ true → (in_results q s.results ≡ true)
-      ⊎ ((q ≡ s.next) × IsLearnt f (moved capacity s e) s.next)
-  results-from e q there = ⊎_elim (λ u. inl (base-among (is_import e) q u)) (λ u. inr (result-new e q u))
-      (among-cases (λ (r : Outcome). r.id) q (if is_import e then without_first s.results else s.results)
-      (result_of s e) there)
-
-  results-apart : (e : Entry) → IsApart (λ (r : Outcome). r.id) (results_after s e)
-  results-apart e = ⊎_elim
-      (λ (u : result_of s e ≡ []). subst (λ z. IsApart (λ (r : Outcome). r.id) (base ++ z)) (sym u)
-      (subst (IsApart (λ (r : Outcome). r.id)) (sym (append-nil base)) (base-apart (is_import e))))
-      (λ (u : (r : Outcome) × (result_of s e ≡ r ∷ []) × (r.id ≡ s.next)). subst
-      (λ z. IsApart (λ (r : Outcome). r.id) (base ++ z)) (sym u.1)
-      (apart-push (λ (r : Outcome). r.id) base u.0 (base-apart (is_import e))
-      (false_from_ne_true (in_results u.0.id base)
-      (λ there. not-both (in_results s.next s.results)
-      (subst (λ z. in_results z s.results ≡ true) u.2 (base-among (is_import e) u.0.id there))
-      (next-not-results f reducers capacity s k e)))))
-      (result-shape e)
-    where
-      base : List Outcome
-      base = if is_import e then without_first s.results else s.results
-
-  old-fine : (e : Entry) → All (OldIsFine f (moved capacity s e)) (results_after s e)
-  old-fine e = All-append (OldIsFine f (moved capacity s e))
-      (if is_import e then without_first s.results else s.results) (result_of s e)
-      (All-weaker (OldIsFine f s) (OldIsFine f (moved capacity s e)) (λ r fine id is. let t = fine id is in
-      let l = next-grows s (addition_of e) in let b = t.1 in
-      (t.0, omega arith, stays-two f reducers capacity s k e id b t.2))
-      (if is_import e then without_first s.results else s.results) (base-old (is_import e)))
-      (result-old e)
-
   not-in-results : (q : ℕ) → in_results q s.results ≡ false → in_results q (s.results ++ []) ≡ false
   not-in-results q lacks = ap (in_results q) (append-nil s.results) ∙ lacks
 
@@ -256,9 +127,9 @@ module _ (f : Cnf) (reducers capacity : ℕ) (s : State) (k : IsInOrder f reduce
     gain_results = gain.off_results;
     work = offers.from;
     work_apart = offers.apart;
-    results = results-from e;
-    results_apart = results-apart e;
-    old = old-fine e;
+    results = results-from f reducers capacity s k e;
+    results_apart = results-apart f reducers capacity s k e;
+    old = old-fine f reducers capacity s k e;
     taken = takes.held;
     idle = takes.idle;
     justified = λ x is. justified f reducers s e x ok is;

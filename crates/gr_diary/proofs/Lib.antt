@@ -5,6 +5,7 @@ pub mod Lines
 pub mod Sound
 pub mod Among
 pub mod Moved
+pub mod ResultLists
 pub mod Changes
 pub mod Left
 pub mod Own
