@@ -21,3 +21,4 @@ pub mod Units
 pub mod Justified
 pub mod WholeRun
 pub mod ShorteningRun
+pub mod Repeated

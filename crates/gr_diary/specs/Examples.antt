@@ -3,11 +3,13 @@ use Rattle.std.specs.Prelude.{◌≡◌, ℕ, ◌-◌, true, false, List, [], �
 use Rattle.gr_logic.specs.Literals.{Literal}
 use Rattle.gr_logic.specs.Formulas.{Cnf}
 use Rattle.gr_logic.specs.Rup.{rup, Accepted}
+use Rattle.gr_logic.specs.Closure.{listed}
 use Rattle.gr_logic.specs.declared.items.Strengthened.TheVariants.{Same, Shorter}
 use Rattle.gr_logic.specs.declared.lines.Line.TheVariants.{Add, Delete}
 use Rattle.gr_diary.specs.declared.entries.Entry.{Entry}
 use Rattle.gr_diary.specs.declared.entries.Entry.TheVariants.{Learn, Take, Return, Import, Drained, Forget, Close}
 use Rattle.gr_diary.specs.declared.entries.Entry.TheVariants as entry
+use Rattle.gr_diary.specs.Rules.{HasItsUnits}
 use Rattle.gr_diary.specs.Histories.{IsLegal, AddsEmptyClause, lines_of, part_after}
 
 -- the literal of a variable, counted from 1
@@ -154,3 +156,7 @@ ShorteningRunIsLegal =
 -- it may not say that no literal can go
 abbrev pub ShorterIsNotSame : Type 0
 ShorterIsNotSame = ¬ IsLegal pairs 1 2 (taken_run ++ Return 1 Same ∷ [])
+
+-- a clause that repeats its one literal is the unit clause of that literal, as any clause is read as a set
+abbrev pub RepeatedLiteralIsUnit : Type 0
+RepeatedLiteralIsUnit = HasItsUnits (listed ((plus 1 ∷ plus 1 ∷ []) ∷ []))

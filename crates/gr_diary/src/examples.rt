@@ -1,5 +1,5 @@
 // Small histories, legal or made illegal by a single entry: each is the contract of a function that does nothing.
-ghost use Rattle.gr_diary.specs.Examples.{RefutationIsLegal, UnreadHintCounts, EndsAreLast, EmptyListsGiveNothing, WholeRunIsLegal, UnitsComeFirst, TakesAreSingle, DrainedMeansEmpty, ForgetsAreInOrder, LearnsAreInBounds, LearnsAreNormal, ShorteningRunIsLegal, ShorterIsNotSame};
+ghost use Rattle.gr_diary.specs.Examples.{RefutationIsLegal, UnreadHintCounts, EndsAreLast, EmptyListsGiveNothing, WholeRunIsLegal, UnitsComeFirst, TakesAreSingle, DrainedMeansEmpty, ForgetsAreInOrder, LearnsAreInBounds, LearnsAreNormal, ShorteningRunIsLegal, ShorterIsNotSame, RepeatedLiteralIsUnit};
 
 /// The empty clause, learnt from `1` and `-1`.
 pub fn refutation_is_legal()
@@ -64,4 +64,9 @@ pub fn shortening_run_is_legal()
 /// A reducer may not keep what greedy strengthening leaves out.
 pub fn shorter_is_not_same()
     ensures { ShorterIsNotSame }
+{}
+
+/// Whether a literal is a clause by itself is read off the clause's set.
+pub fn repeated_literal_is_unit()
+    ensures { RepeatedLiteralIsUnit }
 {}
