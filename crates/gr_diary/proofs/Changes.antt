@@ -1,7 +1,7 @@
 -- each kind of entry
 use Rattle.std.proofs.Common.{◌≡◌, ◌≢◌, ◌≤◌, ◌<◌, ℕ, Bool, true, false, not, ◌||◌, ◌⊎◌, inl, inr, ⊎_elim, List, [], ◌∷◌, ◌++◌, length, append-nil, Some, None, refl, sym, ap, ◌∙◌, subst, arith, nat_eq, nat_lt, if◌then◌else◌, option_to_list, option_map, All, filter}
 use Rattle.std.proofs.lemmas.Bool.{eqb-true, or_cases, false_from_ne_true}
-use Rattle.std.proofs.lemmas.List.Elements.{All-nil, All-cons, All-append, All-weaker, All-head, All-tail}
+use Rattle.std.proofs.lemmas.List.Elements.{All-head, All-tail}
 use Rattle.gr_logic.specs.Literals.{Literal}
 use Rattle.gr_logic.specs.Formulas.{Cnf}
 use Rattle.gr_logic.specs.WorkLists.{without_first, best, best_from, comes_before}
@@ -11,14 +11,14 @@ use Rattle.gr_diary.specs.declared.entries.Entry.{Entry}
 use Rattle.gr_diary.specs.declared.entries.Entry.TheVariants.{Learn, Take, Return, Import, Drained, Forget, Close}
 use Rattle.gr_diary.specs.declared.entries.Entry.TheVariants as entry
 use Rattle.gr_diary.specs.Entries.{Addition, actor_of, addition_of}
-use Rattle.gr_diary.specs.States.{State, Outcome, has, in_work, in_results}
-use Rattle.gr_diary.specs.Steps.{best_id, first_result, dropped, gained, held_after, work_after, result_of, is_import, results_after, taken_of, moved}
+use Rattle.gr_diary.specs.States.{State, has, in_work, in_results}
+use Rattle.gr_diary.specs.Steps.{best_id, dropped, gained, held_after, work_after, results_after, taken_of, moved}
 use Rattle.gr_diary.specs.Rules.{Allowed}
-use Rattle.gr_diary.specs.Invariant.{IsApart, IsLearnt, HasTwo, OldIsFine, IsInOrder}
+use Rattle.gr_diary.specs.Invariant.{IsApart, IsLearnt, HasTwo, IsInOrder}
 use Rattle.gr_diary.proofs.Among.{same-number, or-second, or-first, not-both, among-cases, among-filter, among-passes, apart-filter, apart-push, among-rest, apart-rest, among-one}
 use Rattle.gr_diary.proofs.Lines.{justified}
 use Rattle.gr_diary.proofs.ResultLists.{first-in, first-apart, results-from, results-apart, old-fine}
-use Rattle.gr_diary.proofs.Moved.{Change, stays-learnt, stays-two, new-learnt, new-clause, next-not-held, next-not-work, next-not-results, still-held, gain-held, next-grows}
+use Rattle.gr_diary.proofs.Moved.{Change, stays-learnt, stays-two, new-learnt, new-clause, next-not-held, next-not-work, next-not-results, still-held, gain-held}
 
 -- the best item is one of the list
 best_from-in : (xs : List Item) (x : Item) → in_work (best_from x xs).id (x ∷ xs) ≡ true
@@ -106,8 +106,7 @@ module _ (f : Cnf) (reducers capacity : ℕ) (s : State) (k : IsInOrder f reduce
   same-takes e same keeps = record {
     held = λ q is.
         let was : s.taken (actor_of e) ≡ Some q = sym same ∙ is in
-        let holds = k.taken (actor_of e) q was in
-        (
+        let holds = k.taken (actor_of e) q was in (
           still-held f reducers capacity s k e (actor_of e) q holds.0 (λ _. keeps q was),
           stays-two f reducers capacity s k e q (k.held (actor_of e) q holds.0).below holds.1,
         );
@@ -211,7 +210,8 @@ module _ (f : Cnf) (reducers capacity : ℕ) (s : State) (k : IsInOrder f reduce
       (new-gain (entry.Unit actor lit hints) record { clause = lit ∷ []; hints = hints } refl refl
       (λ _. next-not-work f reducers capacity s k (entry.Unit actor lit hints))
       (λ at_zero. subst
-      (λ a. in_results s.next (s.results ++ (if nat_lt 0 a then record { old = None; id = s.next } ∷ [] else [])) ≡ false)
+      (λ a. in_results s.next (s.results ++ (if nat_lt 0 a then record { old = None; id = s.next } ∷ [] else []))
+      ≡ false)
       (sym at_zero) (not-in-results s.next (next-not-results f reducers capacity s k (entry.Unit actor lit hints)))))
       (same-offers (entry.Unit actor lit hints) refl) (same-takes (entry.Unit actor lit hints) refl (λ q was. refl))
   changed (Take actor) ok =
@@ -231,8 +231,7 @@ module _ (f : Cnf) (reducers capacity : ℕ) (s : State) (k : IsInOrder f reduce
       }
       record {
         held = λ q is.
-            let on_offer = k.work q (best-in s.work q is) in
-            (
+            let on_offer = k.work q (best-in s.work q is) in (
               gain-held f reducers capacity s k (Take actor) q is,
               stays-two f reducers capacity s k (Take actor) q on_offer.0.below on_offer.1,
             );

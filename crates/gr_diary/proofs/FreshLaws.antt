@@ -1,20 +1,19 @@
 -- what is new on a small history
-use Rattle.std.proofs.Common.{◌≡◌, ◌≢◌, ℕ, Bool, true, false, ◌||◌, List, [], ◌∷◌, Option, Some, None, refl, sym, ap, ◌∙◌, nat_eq, nat_le, if◌then◌else◌, All}
+use Rattle.std.proofs.Common.{◌≡◌, Bool, true, false, ◌||◌, List, [], ◌∷◌, Some, None, refl, ap, if◌then◌else◌, All}
 use Rattle.std.proofs.lemmas.List.Elements.{All-nil, All-cons, All-head, All-tail}
 use Rattle.gr_logic.specs.Literals.{Literal, same_literal}
-use Rattle.gr_logic.specs.Rup.{Live}
 use Rattle.gr_diary.specs.declared.entries.Entry.{Entry}
 use Rattle.gr_diary.specs.declared.entries.Entry.TheVariants.{Learn, Forget}
 use Rattle.gr_diary.specs.Entries.{addition_of}
-use Rattle.gr_diary.specs.States.{State, initial_state, has}
+use Rattle.gr_diary.specs.States.{initial_state, has}
 use Rattle.gr_diary.specs.Steps.{after}
-use Rattle.gr_diary.specs.Rules.{Part, IsSubclause}
+use Rattle.gr_diary.specs.Rules.{IsSubclause}
 use Rattle.gr_diary.specs.Histories.{clauses_held_by, state_of}
 use Rattle.gr_diary.specs.SearchRules.{LearnsFresh, IsFresh}
 use Rattle.gr_diary.specs.Examples.{plus, minus, chain, offer}
 use Rattle.gr_diary.specs.RuleLaws.{NothingIsLearntTwice}
 use Rattle.gr_diary.proofs.Fitting.{fits-none, fits-push}
-use Rattle.gr_diary.proofs.Looks.{Looks, formula_look, initial-looks, look_after, after-looks, part_by, part-looks}
+use Rattle.gr_diary.proofs.Looks.{Looks, formula_look, initial-looks, look_after, after-looks}
 
 -- the clause `3 4` has no clause of the formula in it
 apart : All (λ c. ¬ IsSubclause c (plus 3 ∷ plus 4 ∷ [])) chain.clauses

@@ -1,17 +1,16 @@
 -- the search's rules on small histories
-use Rattle.std.proofs.Common.{◌≡◌, ◌≢◌, ◌≤◌, ◌<◌, ◌+◌, ◌*◌, ℕ, suc, zero, Bool, true, false, not, ◌&&◌, ◌||◌, List, [], ◌∷◌, ◌++◌, length, append-nil, append_assoc, replicate, Option, Some, None, refl, sym, ap, ◌∙◌, subst, arith, if◌then◌else◌, All, nat_eq}
+use Rattle.std.proofs.Common.{◌≡◌, ◌≤◌, ℕ, suc, zero, Bool, true, false, not, ◌&&◌, ◌||◌, List, [], ◌∷◌, ◌++◌, length, append-nil, append_assoc, replicate, Option, Some, None, refl, sym, ap, ◌∙◌, subst, arith, if◌then◌else◌, All}
 use Rattle.std.specs.Prelude.{◌↔◌}
 use Rattle.std.specs.List.{list_any, filter, filter_map, fold}
 use Rattle.std.proofs.lemmas.Bool.{and_parts}
-use Rattle.std.proofs.lemmas.List.Elements.{All-nil, All-cons, All-head, All-tail, All-append, All-replicate, filter-append, filter_map-append}
+use Rattle.std.proofs.lemmas.List.Elements.{All-nil, All-cons, All-head, All-append, All-replicate, filter-append, filter_map-append}
 use Rattle.std.proofs.lemmas.List.Sums.{fold-append}
-use Rattle.gr_logic.specs.Literals.{Literal}
 use Rattle.gr_logic.specs.Restarts.{RestartState, RestartMove, push, clear, no_pushes, after_move, wants_restart, is_restart_due}
 use Rattle.gr_diary.specs.declared.entries.Entry.{Entry}
-use Rattle.gr_diary.specs.declared.entries.Entry.TheVariants.{Learn, Take, Return, Import, Drained, Forget, Close}
+use Rattle.gr_diary.specs.declared.entries.Entry.TheVariants.{Learn, Import, Drained, Forget}
 use Rattle.gr_diary.specs.Entries.{is_learn}
 use Rattle.gr_diary.specs.Histories.{learn_count}
-use Rattle.gr_diary.specs.SearchRules.{EachFits, since, IsOfferedWhereLow, OffersLowLbd, lbd_of, with_push, restart_moves, is_drained, IsAfterDrain, DrainsAfterRestarts, is_solver_forget, forget_count, IsSpaced, SpacesForgets, IsFresh}
+use Rattle.gr_diary.specs.SearchRules.{since, IsOfferedWhereLow, lbd_of, with_push, restart_moves, is_drained, IsAfterDrain, DrainsAfterRestarts, is_solver_forget, forget_count, IsSpaced, SpacesForgets, IsFresh}
 use Rattle.gr_diary.specs.RuleLaws.{RulesBegin, RulesGrow, LowLbdIsOffered, learn, sudden, RestartIsFollowed, ForgettingIsRare}
 use Rattle.gr_diary.proofs.Fitting.{all-at, all-front, fits-none, fits-push, fits-all, fits-append}
 

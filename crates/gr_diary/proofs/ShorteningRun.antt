@@ -1,5 +1,5 @@
 -- a legal history in which a clause is driven out, and one is shortened
-use Rattle.std.proofs.Common.{◌≡◌, ◌≢◌, ℕ, Bool, true, false, ◌||◌, List, [], ◌∷◌, ◌++◌, map, Some, None, option_map, refl, sym, ap, ◌∙◌, subst, arith, nat_eq, nat_le, if◌then◌else◌, All, inl, inr}
+use Rattle.std.proofs.Common.{◌≡◌, ◌≢◌, ℕ, Bool, true, false, ◌||◌, List, [], ◌∷◌, map, Some, None, option_map, refl, sym, ap, ◌∙◌, subst, arith, nat_eq, nat_le, if◌then◌else◌, All, inl, inr}
 use Rattle.std.specs.Prelude.{IsTrue}
 use Rattle.std.proofs.lemmas.Bool.{leb-true}
 use Rattle.std.proofs.lemmas.Bool.Decides.{nat_tests}
@@ -17,11 +17,11 @@ use Rattle.gr_diary.specs.declared.entries.Entry.TheVariants.{Take, Return, Impo
 use Rattle.gr_diary.specs.Entries.{addition_of}
 use Rattle.gr_diary.specs.States.{State, initial_state, has}
 use Rattle.gr_diary.specs.Steps.{after}
-use Rattle.gr_diary.specs.Rules.{Part, IsAble, Allowed, HasItsUnits, KeepsAll, IsShortened, IsSubclause, others_of}
-use Rattle.gr_diary.specs.Histories.{IsLegal, lines_of, lines_from}
-use Rattle.gr_diary.specs.Examples.{plus, pairs, offer_of, taken_run, shortening_run, ShorteningRunIsLegal, ShorterIsNotSame}
-use Rattle.gr_diary.proofs.Looks.{Looks, formula_look, initial-looks, look_grown, look_after, after-looks, lines-look, part_by, part-looks, able-by}
-use Rattle.gr_diary.proofs.Units.{AreThese, members-each, closed-under, no-conflict, no-follow, forced-by}
+use Rattle.gr_diary.specs.Rules.{Part, IsAble, HasItsUnits, KeepsAll, IsShortened, others_of}
+use Rattle.gr_diary.specs.Histories.{IsLegal, lines_from}
+use Rattle.gr_diary.specs.Examples.{plus, pairs, offer_of, shortening_run, ShorteningRunIsLegal, ShorterIsNotSame}
+use Rattle.gr_diary.proofs.Looks.{Looks, formula_look, initial-looks, look_after, after-looks, lines-look, part_by, part-looks, able-by}
+use Rattle.gr_diary.proofs.Units.{AreThese, members-each, no-conflict, no-follow, forced-by}
 use Rattle.gr_diary.proofs.Justified.{justified-by}
 
 abbrev offer4 : Entry

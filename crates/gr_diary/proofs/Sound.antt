@@ -4,11 +4,9 @@ use Rattle.std.specs.FinMap as map
 use Rattle.gr_logic.specs.Formulas.{Cnf}
 use Rattle.gr_logic.specs.Truth.{Meets}
 use Rattle.gr_logic.specs.Laws.{MeetsLive}
-use Rattle.gr_logic.specs.declared.items.Strengthened.TheVariants.{Shorter}
 use Rattle.gr_logic.proofs.Sound.{rup-sound}
 use Rattle.gr_diary.proofs.Meeting.{insert-MeetsLive, without-MeetsLive, empty-MeetsLive, with_clauses-MeetsLive}
 use Rattle.gr_diary.specs.declared.entries.Entry.{Entry}
-use Rattle.gr_diary.specs.declared.entries.Entry.TheVariants.{Return}
 use Rattle.gr_diary.specs.Entries.{Addition, actor_of, addition_of}
 use Rattle.gr_diary.specs.States.{State, initial_state}
 use Rattle.gr_diary.specs.Steps.{live_grown, moved, left_ids, after}

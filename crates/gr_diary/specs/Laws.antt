@@ -1,6 +1,6 @@
 -- the laws of the exchange
-use Rattle.std.specs.Prelude.{◌≡◌, ◌≢◌, ◌↔◌, ℕ, true, false, List, [], ◌∷◌, ◌++◌, Some, None, Bool, nat_eq, IsSome}
-use Rattle.std.specs.List.{list_any, filter}
+use Rattle.std.specs.Prelude.{◌≡◌, ◌≢◌, ◌↔◌, ℕ, true, false, List, ◌∷◌, ◌++◌, Some, None, Bool, nat_eq, IsSome}
+use Rattle.std.specs.List.{list_any}
 use mathlib.Core.List.{IsPrefix}
 use Rattle.std.specs.FinMap as map
 use Rattle.gr_logic.specs.Literals.{Literal}
@@ -13,8 +13,8 @@ use Rattle.gr_logic.specs.declared.items.Strengthened.TheVariants.{Shorter}
 use Rattle.gr_diary.specs.declared.entries.Entry.{Entry}
 use Rattle.gr_diary.specs.declared.entries.Entry.TheVariants.{Learn, Take, Return, Import, Drained, Forget, Close}
 use Rattle.gr_diary.specs.declared.entries.Entry.TheVariants as entry
-use Rattle.gr_diary.specs.Entries.{Addition, addition_of, actor_of, adds_empty}
-use Rattle.gr_diary.specs.States.{State, initial_state, has, is_left}
+use Rattle.gr_diary.specs.Entries.{Addition, addition_of, actor_of}
+use Rattle.gr_diary.specs.States.{State, has, is_left}
 use Rattle.gr_diary.specs.Steps.{moved, left_ids, after, lost}
 use Rattle.gr_diary.specs.Rules.{Allowed, IsSubclause}
 use Rattle.gr_diary.specs.Invariant.{IsKept}

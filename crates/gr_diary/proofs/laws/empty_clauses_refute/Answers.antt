@@ -1,5 +1,4 @@
 use Rattle.gr_logic.proofs.LogSound.{accepts-sound}
-use Rattle.gr_logic.specs.declared.lines.Line.{Line}
 use Rattle.gr_diary.specs.Histories.{lines_of}
 use Rattle.gr_diary.proofs.Lines.{refuted-is-accepted}
 use Rattle.gr_diary.proofs.laws.empty_clauses_refute.Goals as goal
