@@ -1,5 +1,5 @@
 -- the laws of the exchange
-use Rattle.std.specs.Prelude.{◌≡◌, ◌≢◌, ◌↔◌, ℕ, true, false, List, ◌∷◌, ◌++◌, Some, None, Bool, nat_eq, IsSome}
+use Rattle.std.specs.Prelude.{◌≡◌, ◌≢◌, ◌↔◌, ℕ, true, false, List, [], ◌∷◌, ◌++◌, Some, None, Bool, nat_eq, IsSome}
 use Rattle.std.specs.List.{list_any}
 use mathlib.Core.List.{IsPrefix}
 use Rattle.std.specs.FinMap as map
@@ -15,10 +15,29 @@ use Rattle.gr_diary.specs.declared.entries.Entry.TheVariants.{Learn, Take, Retur
 use Rattle.gr_diary.specs.declared.entries.Entry.TheVariants as entry
 use Rattle.gr_diary.specs.Entries.{Addition, addition_of, actor_of}
 use Rattle.gr_diary.specs.States.{State, has, is_left}
-use Rattle.gr_diary.specs.Steps.{moved, left_ids, after, lost}
+use Rattle.gr_diary.specs.Steps.{moved, left_ids, after, lines_of_entry, lost}
 use Rattle.gr_diary.specs.Rules.{Allowed, IsSubclause}
 use Rattle.gr_diary.specs.Invariant.{IsKept}
-use Rattle.gr_diary.specs.Histories.{IsLegal, IsClosed, lines_of, AddsEmptyClause, state_of, entries_of, part_after, clauses_held_by, taken_by, IsEnabled}
+use Rattle.gr_diary.specs.Histories.{IsLegal, IsClosed, lines_of, lefts_of, AddsEmptyClause, state_of, entries_of, part_after, clauses_held_by, taken_by, IsEnabled}
+
+-- what a history is that grew by an entry: legal just where it was and the entry may come, with the entry's lines behind
+-- its lines
+abbrev pub HistoriesGrow : Type 0
+HistoriesGrow =
+    (f : Cnf) (reducers capacity : ℕ) (d : List Entry) (e : Entry)
+    → (IsLegal f reducers capacity (d ++ e ∷ [])
+    ↔ (IsLegal f reducers capacity d × Allowed f reducers (state_of f reducers capacity d) e))
+    × (state_of f reducers capacity (d ++ e ∷ []) ≡ after f reducers capacity (state_of f reducers capacity d) e)
+    × (lines_of f reducers capacity (d ++ e ∷ [])
+    ≡ lines_of f reducers capacity d ++ lines_of_entry f reducers capacity (state_of f reducers capacity d) e)
+    × (lefts_of f reducers capacity (d ++ e ∷ [])
+    ≡ lefts_of f reducers capacity d ++ left_ids f reducers capacity (state_of f reducers capacity d) e ∷ [])
+
+-- each beginning of a legal history is legal
+abbrev pub BeginningsAreLegal : Type 0
+BeginningsAreLegal =
+    (f : Cnf) (reducers capacity : ℕ) (d e : List Entry) → IsPrefix d e → IsLegal f reducers capacity e
+    → IsLegal f reducers capacity d
 
 -- no line of a legal history's log is refused
 abbrev pub NoLineIsRefused : Type 0

@@ -1,5 +1,11 @@
 // Laws of the definitions: each is the contract of a function that does nothing.
-ghost use Rattle.gr_diary.specs.Laws.{NoLineIsRefused, AddedClausesAreImplied, ReturnedClausesAreParts, EmptyClausesRefute, EntriesKeepTheInvariant, HistoriesKeepTheInvariant, OthersKeepHeld, OwnPartStays, EnabledStays, HeldClausesAreLive, StatesTellTheEnd, NothingFollowsTheEnd, OnlyLostIdsLeave};
+ghost use Rattle.gr_diary.specs.Laws.{HistoriesGrow, BeginningsAreLegal, NoLineIsRefused, AddedClausesAreImplied, ReturnedClausesAreParts, EmptyClausesRefute, EntriesKeepTheInvariant, HistoriesKeepTheInvariant, OthersKeepHeld, OwnPartStays, EnabledStays, HeldClausesAreLive, StatesTellTheEnd, NothingFollowsTheEnd, OnlyLostIdsLeave};
+
+/// A history grows entry by entry, and each beginning of a legal one is legal.
+pub fn histories_grow()
+    ensures push { HistoriesGrow }
+    ensures begins { BeginningsAreLegal }
+{}
 
 /// No line of a legal history's log is refused.
 pub fn no_line_is_refused()
