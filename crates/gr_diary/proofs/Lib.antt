@@ -14,7 +14,7 @@ pub mod Ends
 pub mod Lost
 pub mod Looks
 pub mod Small
-pub mod Fitting
+pub mod Growing
 pub mod SearchLaws
 pub mod FreshLaws
 pub mod Units

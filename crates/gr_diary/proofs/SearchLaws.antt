@@ -12,7 +12,7 @@ use Rattle.gr_diary.specs.Entries.{is_learn}
 use Rattle.gr_diary.specs.Histories.{learn_count}
 use Rattle.gr_diary.specs.SearchRules.{since, IsOfferedWhereLow, lbd_of, with_push, restart_moves, is_drained, IsAfterDrain, DrainsAfterRestarts, is_solver_forget, forget_count, IsSpaced, SpacesForgets, IsFresh}
 use Rattle.gr_diary.specs.RuleLaws.{RulesBegin, RulesGrow, LowLbdIsOffered, learn, sudden, RestartIsFollowed, ForgettingIsRare}
-use Rattle.gr_diary.proofs.Fitting.{all-at, all-front, fits-none, fits-push, fits-all, fits-append}
+use Rattle.gr_diary.proofs.Growing.{all-at, all-front, fits-none, fits-push, fits-all, fits-append}
 
 pub rules-begin : RulesBegin
 rules-begin = (
