@@ -334,15 +334,24 @@ shortening-run-is-legal = (
       (lines-look pairs 1 2 state5 look5 (Forget 0 (5 ∷ [])) [] (shorten ∷ rest7) lines7 looks5 refl lines7-are))))),
 )
 
+-- greedy strengthening does not keep all
+keeps-not-all : ¬ KeepsAll others whole
+keeps-not-all keeps =
+    let kept : short ≡ keeps.0 = greedy-unique others whole short keeps.0 keeps-short keeps.1 in
+    let has : members short (plus 3) ≡ true = ap (λ ls. members ls (plus 3)) kept ∙ keeps.2 (plus 3) refl in
+    cc has
+
+one-value : (c d : List Literal) → Some c ≡ Some d → d ≡ c
+one-value c d same = let fact : c ≡ d = cc same in sym fact
+
+not-same : IsAble pairs 1 part6 (Return 1 Same) → ⊥
+not-same able =
+    let same : able.2 ≡ 5 = let fact = able.4 in cc fact in
+    let clause : able.3 ≡ whole = one-value whole able.3 (sym (ap part6.cites same) ∙ able.5) in
+    keeps-not-all (subst (λ d. KeepsAll others d) clause
+    (subst (λ id. KeepsAll (others_of part6 id) able.3) same able.7))
+
 pub shorter-is-not-same : ShorterIsNotSame
 shorter-is-not-same legal =
-    let able : IsAble pairs 1 part6 (Return 1 Same) = subst (λ p. IsAble pairs 1 p (Return 1 Same))
-    (sym (part-looks pairs state6 look5 1 looks6)) legal.1.1.1.1.1.1.0.able in
-    let same : able.2 ≡ 5 = let fact = able.4 in cc fact in
-    let cited : look5 5 ≡ Some able.3 = sym (ap part6.cites same) ∙ able.5 in
-    let clause : able.3 ≡ whole = let fact : whole ≡ able.3 = cc cited in sym fact in
-    let keeps : KeepsAll others whole = subst (λ d. KeepsAll others d) clause
-    (subst (λ id. KeepsAll (others_of part6 id) able.3) same able.7) in
-    let kept : keeps.0 ≡ short = greedy-unique others whole keeps.0 short keeps.1 keeps-short in
-    let has : members short (plus 3) ≡ true = ap (λ ls. members ls (plus 3)) (sym kept) ∙ keeps.2 (plus 3) refl in
-    cc has
+    not-same (subst (λ p. IsAble pairs 1 p (Return 1 Same)) (sym (part-looks pairs state6 look5 1 looks6))
+    legal.1.1.1.1.1.1.0.able)

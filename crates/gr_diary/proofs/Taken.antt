@@ -145,23 +145,33 @@ take-is actor Drained is = absurd (cc)
 take-is actor (Forget owner ids) is = absurd (cc)
 take-is actor Close is = absurd (cc)
 
+-- the actor's last `Take` in a list
+last-take : (actor : ℕ) (d : List Entry) → list_any (is_take_of actor) d ≡ true
+    → (earlier : List Entry) × (between : List Entry) × (d ≡ earlier ++ Take actor ∷ between)
+    × (list_any (is_take_of actor) between ≡ false)
+last-take actor d some =
+    let last = last-passing (is_take_of actor) d some in
+    (last.0, last.2, last.3 ∙ ap (λ x. last.0 ++ x ∷ last.2) (take-is actor last.1 last.4), last.5)
+
+-- an actor that has taken an id has a `Take` before
+has-take : (f : Cnf) (reducers capacity : ℕ) (d : List Entry) (actor id : ℕ) → IsLegal f reducers capacity d
+    → (state_of f reducers capacity d).taken actor ≡ Some id → list_any (is_take_of actor) d ≡ true
+has-take f reducers capacity d actor id legal taken =
+    true_from_ne_false (list_any (is_take_of actor) d) (λ none_taken.
+    let since = stretch f reducers capacity d (initial_state f) actor id (begins-kept f reducers) legal none_taken taken in
+    cc since.0)
+
+-- the parts of a history end to end
+joined : (before earlier between : List Entry) (take e : Entry) (later : List Entry)
+    → before ≡ earlier ++ take ∷ between → before ++ e ∷ later ≡ earlier ++ take ∷ (between ++ e ∷ later)
+joined before earlier between take e later splits =
+    ap (λ d. d ++ e ∷ later) splits ∙ append_assoc earlier (take ∷ between) (e ∷ later)
+
 pub returned-clauses-are-parts : ReturnedClausesAreParts
 returned-clauses-are-parts f reducers capacity before actor c hints later legal =
-    let parts = legal-parts f reducers capacity before (Return actor (Shorter c hints) ∷ later)
-    (initial_state f) legal in
-    let able = parts.1.0.able in
-    let some : list_any (is_take_of actor) before ≡ true = true_from_ne_false (list_any (is_take_of actor) before)
-    (λ none_taken.
-    let since = stretch f reducers capacity before (initial_state f) actor able.2
-    (begins-kept f reducers) parts.0 none_taken able.4 in
-    cc since.0) in
-    let last = last-passing (is_take_of actor) before some in
-    let split : before ≡ last.0 ++ Take actor ∷ last.2 = last.3
-    ∙ ap (λ x. last.0 ++ x ∷ last.2) (take-is actor last.1 last.4) in
-    let whole : before ++ Return actor (Shorter c hints) ∷ later
-    ≡ last.0 ++ Take actor ∷ (last.2 ++ Return actor (Shorter c hints) ∷ later) =
-    ap (λ z. z ++ Return actor (Shorter c hints) ∷ later) split ∙ append_assoc last.0 (Take actor ∷ last.2)
-    (Return actor (Shorter c hints) ∷ later) in
-    subst (λ z. IsPartOfLastTaken f reducers capacity z actor c) (sym split)
-    (part-of-taken f reducers capacity last.0 last.2 actor c hints later
-    (subst (IsLegal f reducers capacity) whole legal) last.5)
+    let e : Entry = Return actor (Shorter c hints) in
+    let parts = legal-parts f reducers capacity before (e ∷ later) (initial_state f) legal in
+    let last = last-take actor before (has-take f reducers capacity before actor parts.1.0.able.2 parts.0 parts.1.0.able.4) in
+    subst (λ d. IsPartOfLastTaken f reducers capacity d actor c) (sym last.2)
+    (part-of-taken f reducers capacity last.0 last.1 actor c hints later
+    (subst (IsLegal f reducers capacity) (joined before last.0 last.1 (Take actor) e later last.2) legal) last.3)
