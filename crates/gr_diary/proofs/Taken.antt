@@ -158,7 +158,8 @@ has-take : (f : Cnf) (reducers capacity : ℕ) (d : List Entry) (actor id : ℕ)
     → (state_of f reducers capacity d).taken actor ≡ Some id → list_any (is_take_of actor) d ≡ true
 has-take f reducers capacity d actor id legal taken =
     true_from_ne_false (list_any (is_take_of actor) d) (λ none_taken.
-    let since = stretch f reducers capacity d (initial_state f) actor id (begins-kept f reducers) legal none_taken taken in
+    let since = stretch f reducers capacity d (initial_state f) actor id
+    (begins-kept f reducers) legal none_taken taken in
     cc since.0)
 
 -- the parts of a history end to end
@@ -171,7 +172,8 @@ pub returned-clauses-are-parts : ReturnedClausesAreParts
 returned-clauses-are-parts f reducers capacity before actor c hints later legal =
     let e : Entry = Return actor (Shorter c hints) in
     let parts = legal-parts f reducers capacity before (e ∷ later) (initial_state f) legal in
-    let last = last-take actor before (has-take f reducers capacity before actor parts.1.0.able.2 parts.0 parts.1.0.able.4) in
+    let last = last-take actor before
+    (has-take f reducers capacity before actor parts.1.0.able.2 parts.0 parts.1.0.able.4) in
     subst (λ d. IsPartOfLastTaken f reducers capacity d actor c) (sym last.2)
     (part-of-taken f reducers capacity last.0 last.1 actor c hints later
     (subst (IsLegal f reducers capacity) (joined before last.0 last.1 (Take actor) e later last.2) legal) last.3)
