@@ -44,7 +44,8 @@ fn slide_slot(lits: &mut Vec<Lit>, slot: Option<Run>, end: usize) -> Option<Run>
     requires order { begins_from end slot ≡ true }
     ensures run { result ≡ moved_to end slot }
     ensures count { length lits.new.items ≡ length lits.old.items }
-    ensures moved { take (end + run_length slot) lits.new.items ≡ take end lits.old.items ++ lits_in lits.old.items slot }
+    ensures moved { take (end + run_length slot) lits.new.items
+        ≡ take end lits.old.items ++ lits_in lits.old.items slot }
     ensures rest { drop (end + run_length slot) lits.new.items ≡ drop (end + run_length slot) lits.old.items }
 {
     let run = slot?;

@@ -180,11 +180,11 @@ impl Pool {
 /// How many literals more a full vector of so many gets room for, where so many are to be appended.
 ///
 /// Let L be the literals of live clauses, with those to be appended. A vector that grows is not sparse, so it has at
-/// most 5/4 L, and the old one and the new one have room for 5/4 (1 + 4/3) L at most, which is less than 3 L. A full one
-/// has room for 5/3 L, where L is the most that there were at once, as it never shrinks: a compaction within it takes
-/// nothing, and one to a new vector takes 4/3 L more, 3 L together. Where the ids are many and L is small, a sixteenth
-/// of the slots may be dead literals besides: old and new have 7/48 of a literal for each slot more, a twentieth of what
-/// the slots take.
+/// most 5/4 L, and the old one and the new one have room for 5/4 (1 + 4/3) L at most, which is less than 3 L. A full
+/// one has room for 5/3 L, where L is the most that there were at once, as it never shrinks: a compaction within it
+/// takes nothing, and one to a new vector takes 4/3 L more, 3 L together. Where the ids are many and L is small, a
+/// sixteenth of the slots may be dead literals besides: old and new have 7/48 of a literal for each slot more, a
+/// twentieth of what the slots take.
 fn growth(len: usize, count: usize) -> usize
     ensures enough { count ≤ result }
     ensures bounded { 3 * result ≤ len + 3 * count }

@@ -5,7 +5,7 @@ use Rattle.gr_check.specs.Runs.{IsRunWithin, begins_from, run_length}
 use Rattle.gr_check.proofs.Sliding.{same_slot_at, next_begins, next_order, later, slots_behind, slid_next, end_within}
 use Rattle.gr_check.proofs.compaction.slide.Goals as goal
 
--- src/compaction.rt:35:19
+-- the run at hand ends within
 pub slide_slot-requires-clause-within : goal.slide_slot-requires-clause-within
 slide_slot-requires-clause-within c =
     let in_range : c.loop-i.i < length c.loop-i.near.items = omega arith in
@@ -15,7 +15,6 @@ slide_slot-requires-clause-within c =
     ∙ same_slot_at c.loop-i.near.items c.args.near.now.items c.loop-i.i in_range in_old c.loop-i.invariant.slots in
     rw (slot, c.loop-i.invariant.count) (c.requires.within c.loop-i.i None in_old)
 
--- src/compaction.rt:33:5
 pub loop-i-preserved : goal.loop-i-preserved
 loop-i-preserved c =
     let in_range : c.loop-i.i < length c.loop-i.near.items = omega arith in
@@ -31,10 +30,18 @@ loop-i-preserved c =
     c.slot_len-end.ensures ∙ ap run_length slot in
     record {
       count = c.slide_slot.ensures.count ∙ c.loop-i.invariant.count;
-      end_within = rw (long, c.slide_slot.ensures.count) (end_within (length c.loop-i.lits.items) c.loop-i.end _ begins within c.loop-i.invariant.end_within);
-      rest = rw c.slot_len-end.ensures (c.slide_slot.ensures.rest) ∙ later c.loop-i.lits.items c.args.lits.now.items c.loop-i.end (c.loop-i.end + c.slot_len-end.result) (omega arith) c.loop-i.invariant.rest;
+      end_within =
+          rw (long, c.slide_slot.ensures.count)
+          (end_within (length c.loop-i.lits.items) c.loop-i.end _ begins within
+          c.loop-i.invariant.end_within);
+      rest =
+          rw c.slot_len-end.ensures c.slide_slot.ensures.rest
+          ∙ later c.loop-i.lits.items c.args.lits.now.items c.loop-i.end
+          (c.loop-i.end + c.slot_len-end.result) (omega arith) c.loop-i.invariant.rest;
       count_slots = length-set _ _ _ ∙ c.loop-i.invariant.count_slots;
-      slots = slots_behind c.loop-i.near.items c.args.near.now.items c.loop-i.i c.slide_slot.result c.loop-i.invariant.slots;
+      slots =
+          slots_behind c.loop-i.near.items c.args.near.now.items c.loop-i.i c.slide_slot.result
+          c.loop-i.invariant.slots;
       order = rw long (next_order c.args.near.now.items c.loop-i.i c.loop-i.end in_old c.loop-i.invariant.order);
       moved =
           rw (c.slide_slot.ensures.run, slot, long)
