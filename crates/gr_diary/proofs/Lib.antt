@@ -1,7 +1,7 @@
 pub mod LogPieces
 pub mod MoreClauses
 pub mod Meeting
-pub mod Lines
+pub mod Following
 pub mod Sound
 pub mod Among
 pub mod Moved
@@ -22,3 +22,10 @@ pub mod Justified
 pub mod WholeRun
 pub mod ShorteningRun
 pub mod Repeated
+pub mod SevenBits
+pub mod Groups
+pub mod RoundTrips
+pub mod Kept
+pub mod Fitting
+pub mod Coming
+pub mod Telling

@@ -8,3 +8,9 @@ pub mod SearchRules
 pub mod Laws
 pub mod Examples
 pub mod RuleLaws
+pub mod Packing
+pub mod Unpacking
+pub mod Ranges
+pub mod Diaries
+pub mod Keeping
+pub mod DiaryLaws

@@ -1,5 +1,6 @@
 // Laws of the definitions: each is the contract of a function that does nothing.
 ghost use Rattle.gr_diary.specs.Laws.{HistoriesGrow, BeginningsAreLegal, NoLineIsRefused, AddedClausesAreImplied, ReturnedClausesAreParts, EmptyClausesRefute, EntriesKeepTheInvariant, HistoriesKeepTheInvariant, OthersKeepHeld, OwnPartStays, EnabledStays, HeldClausesAreLive, StatesTellTheEnd, NothingFollowsTheEnd, OnlyLostIdsLeave};
+ghost use Rattle.gr_diary.specs.DiaryLaws.{JournalsTellTheLog};
 
 /// A history grows entry by entry, and each beginning of a legal one is legal.
 pub fn histories_grow()
@@ -50,4 +51,9 @@ pub fn closed_histories_end()
 /// Only ids that lose a holder by an entry leave at it.
 pub fn only_lost_ids_leave()
     ensures { OnlyLostIdsLeave }
+{}
+
+/// The lines of a diary that has a history's entries, and at each the ids that left, are the history's log.
+pub fn journals_tell_the_log()
+    ensures { JournalsTellTheLog }
 {}
