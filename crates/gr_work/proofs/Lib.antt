@@ -1,0 +1,4 @@
+pub mod Best
+pub mod Rankings
+pub mod Entries
+pub mod Fresh

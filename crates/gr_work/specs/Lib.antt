@@ -1,0 +1,4 @@
+pub mod WorkSets
+pub mod Ranks
+pub mod Sound
+pub mod Laws
