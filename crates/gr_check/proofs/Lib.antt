@@ -1,11 +1,13 @@
 pub mod Entries
+pub mod FarEntries
+pub mod Ascending
 pub mod RunMaps
 pub mod Reading
 pub mod Negations
 pub mod Removals
 pub mod Additions
 pub mod Bounds
-pub mod Compacting
 pub mod Hints
 pub mod Moves
 pub mod Sliding
+pub mod Compactions

@@ -1,17 +1,16 @@
 -- clauses that are moved together within their vector, one by one
-use Rattle.std.proofs.Common.{◌≡◌, ℕ, ◌+◌, ◌-◌, ◌<◌, ◌≤◌, Bool, true, false, ◌&&◌, List, [], ◌∷◌, ◌++◌, take, drop, length, Option, Some, None, get_or, refl, sym, ap, ◌∙◌, arith, add-one, drop-cons}
+use Rattle.std.proofs.Common.{◌≡◌, ℕ, ◌+◌, ◌-◌, ◌<◌, ◌≤◌, Bool, true, false, ◌&&◌, nat_le, if◌then◌else◌, List, [], ◌∷◌, ◌++◌, take, drop, length, Option, Some, None, get_or, refl, sym, ap, ◌∙◌, arith, add-one, drop-cons}
 use Rattle.std.specs.Prelude.{option_map, All}
 use Rattle.std.proofs.Math.ListN.{set}
 use Rattle.std.proofs.lemmas.Bool.Decides.{nat_tests}
-use Rattle.std.proofs.lemmas.List.{drop-drop, drop-set-lt, length-drop, length-take-le, length-append, take_more_set}
+use Rattle.std.proofs.lemmas.List.{drop-drop, drop-set-lt, drop_all, length-drop, length-take-le, length-append, take_more_set, take-take, take-append-le, take-append-drop}
+use Rattle.std.proofs.lemmas.List.Elements.{All-nil, All-cons}
 use Rattle.std.proofs.lemmas.Grind.{drop_more_same}
 use Rattle.gr_logic.specs.Literals.{Literal}
-use Rattle.gr_check.specs.Runs.{lits_of, lits_in, clauses_of, clauses_in, RunsWithin, AreMoved, IsRunWithin, are_in_order, begins_from, moved_to, run_length}
-use Rattle.gr_check.specs.Entries.{near_entries}
+use Rattle.gr_check.specs.Runs.{lits_of, lits_in, clauses_in, AreMoved, IsRunWithin, are_in_order, begins_from, moved_to, run_length, is_movable, end_in_order, end_of}
 use Rattle.gr_check.specs.declared.runs.Run.{Run}
 use Rattle.gr_check.proofs.RunMaps.{lits_of-last}
-use Rattle.gr_check.proofs.Compacting.{IsCopied-near, IsCopied-all, RunsWithin-near}
-use Rattle.gr_check.proofs.Moves.{moved_next}
+use Rattle.gr_check.proofs.Moves.{moved_next, all_longer, same_slots}
 
 -- the next run first, and then the others
 next_slot : (slots : List (Option Run)) (i : ℕ) → i < length slots
@@ -121,21 +120,94 @@ slid_next src lits new_lits old slots i end in_old in_range le within begins sam
     (rw moved (placed_lits lits end (get_or old i None) le within
     ∙ same_lits src lits end (get_or old i None) same begins))
 
--- no entries
-pub none_of : (far : List (ℕ × Run)) → length far ≡ 0 → far ≡ []
-none_of [] none = refl
-none_of (e ∷ es) none = absurd (cc)
+-- the runs that are left end where all do
+pub next_end : (slots : List (Option Run)) (i end : ℕ) → i < length slots
+    → end_of end (drop i slots) ≡ end_of (end + run_length (get_or slots i None)) (drop (i + 1) slots)
+next_end slots i end in_range = ap (end_of end) (next_slot slots i in_range)
 
--- runs that are moved end within
-pub slid_within : (count : ℕ) (slots : List (Option Run)) (far : List (ℕ × Run)) → far ≡ []
-    → All (IsRunWithin count) slots → RunsWithin count (near_entries 0 slots ++ far)
-slid_within count slots far none all = rw none (RunsWithin-near count slots all)
+-- after the last one, this is where they end
+pub last_end : (slots : List (Option Run)) (i end : ℕ) → length slots ≤ i → end_of end (drop i slots) ≡ end
+last_end slots i end all = ap (end_of end) (drop_all i slots all)
 
--- and have the same clauses
-pub slid_clauses : (src lits : List Literal) (old slots : List (Option Run)) (far : List (ℕ × Run))
-    → far ≡ [] → clauses_in lits slots ≡ clauses_in src old
-    → clauses_of lits (near_entries 0 slots ++ far) ≡ clauses_of src (near_entries 0 old ++ far)
-slid_clauses src lits old slots far none same =
-    rw none
-    (IsCopied-all (clauses_of src (near_entries 0 old ++ [])) src lits (near_entries 0 slots ++ [])
-    (IsCopied-near src lits old slots [] same))
+-- the literals before the start stay
+pub kept_next : (lits old new : List Literal) (c : List Literal) (start end count : ℕ) → start ≤ end
+    → end ≤ length old → take (end + count) new ≡ take end old ++ c → take start old ≡ take start lits
+    → take start new ≡ take start lits
+kept_next lits old new c start end count le within moved kept =
+    sym (take-take start (end + count) new (omega arith)) ∙ ap (take start) moved
+    ∙ take-append-le start (take end old) c (omega (arith, length-take-le end old within))
+    ∙ take-take start end old le ∙ kept
+
+-- runs that are in order from an end on have the same clauses where the literals from there on are the same
+pub same_behind : (src lits : List Literal) (end : ℕ) (slots : List (Option Run)) → drop end lits ≡ drop end src
+    → are_in_order end slots ≡ true → clauses_in lits slots ≡ clauses_in src slots
+same_behind src lits end [] same order = refl
+same_behind src lits end (slot ∷ slots) same order =
+    ap (λ x. x ∷ clauses_in lits slots) (same_lits src lits end slot same (left_of _ _ order))
+    ∙ ap (λ xs. option_map (lits_of src) slot ∷ xs)
+    (same_behind src lits (end + run_length slot) slots
+    (later lits src end (end + run_length slot) (omega arith) same) (right_of _ _ order))
+
+-- what one test of the order says of a run
+movable_begins : (count end : ℕ) (slot : Option Run) → is_movable count end slot ≡ true → begins_from end slot ≡ true
+movable_begins count end None is = refl
+movable_begins count end (Some run) is = left_of _ _ is
+
+movable_within : (count end : ℕ) (slot : Option Run) → is_movable count end slot ≡ true → IsRunWithin count slot
+movable_within count end None is = tt
+movable_within count end (Some run) is =
+    let le : nat_le (run.from + run.len) count ≡ true =
+    right_of (nat_le end run.from) (nat_le (run.from + run.len) count) is in
+    grind (arith, nat_tests)
+
+-- both hold
+both : (a b : Bool) → a ≡ true → b ≡ true → (a && b) ≡ true
+both true true first second = refl
+both true false first second = second
+both false b first second = absurd (cc)
+
+-- runs with an end are in order, end within, and end there
+pub ends_in_order : (count end last : ℕ) (slots : List (Option Run)) → end_in_order count end slots ≡ Some last
+    → (are_in_order end slots ≡ true) × All (IsRunWithin count) slots × (last ≡ end_of end slots)
+ends_in_order count end last [] is = (refl, All-nil (IsRunWithin count), cc)
+ends_in_order count end last (slot ∷ slots) is = cases (is_movable count end slot) refl is
+    (ends_in_order count (end + run_length slot) last slots)
+  where
+    cases : (b : Bool) → is_movable count end slot ≡ b
+        → (if b then end_in_order count (end + run_length slot) slots else None) ≡ Some last
+        → (end_in_order count (end + run_length slot) slots ≡ Some last
+        → (are_in_order (end + run_length slot) slots ≡ true) × All (IsRunWithin count) slots
+        × (last ≡ end_of (end + run_length slot) slots))
+        → (are_in_order end (slot ∷ slots) ≡ true) × All (IsRunWithin count) (slot ∷ slots)
+        × (last ≡ end_of end (slot ∷ slots))
+    cases true movable is others =
+        let rest = others is in
+        (
+          both (begins_from end slot) _ (movable_begins count end slot movable) rest.0,
+          All-cons (IsRunWithin count) slot slots (movable_within count end slot movable) rest.1,
+          rest.2,
+        )
+    cases false movable is others = absurd (cc)
+
+-- runs that were moved before others were moved behind them
+pub first_moved : (src mid lits : List Literal) (old new : List (Option Run)) (middle end : ℕ) → middle ≤ end
+    → take middle lits ≡ take middle mid → AreMoved src old (take middle mid) new
+    → AreMoved src old (take end lits) new
+first_moved src mid lits old new middle end le kept moved =
+    let apart : take end lits ≡ take middle mid ++ drop middle (take end lits) =
+    sym (take-append-drop middle (take end lits))
+    ∙ ap (λ xs. xs ++ drop middle (take end lits)) (take-take middle end lits le ∙ kept) in
+    rw apart
+    record {
+      within = all_longer (take middle mid) (drop middle (take end lits)) new moved.within;
+      same = same_slots (take middle mid) (drop middle (take end lits)) new moved.within ∙ moved.same;
+    }
+
+-- runs that were moved after others were moved before them
+pub then_moved : (src mid lits : List Literal) (old new : List (Option Run)) (middle end : ℕ)
+    → drop middle mid ≡ drop middle src → are_in_order middle old ≡ true → AreMoved mid old (take end lits) new
+    → AreMoved src old (take end lits) new
+then_moved src mid lits old new middle end same order moved = record {
+  within = moved.within;
+  same = moved.same ∙ same_behind src mid middle old same order;
+}

@@ -10,9 +10,20 @@ near_entries id [] = []
 near_entries id (None ∷ slots) = near_entries (id + 1) slots
 near_entries id (Some run ∷ slots) = (id, run) ∷ near_entries (id + 1) slots
 
--- the runs of a map, those in its vector first
+-- an id's run, if there is one, and then the other entries
+abbrev pub with_entry : ℕ → Option Run → List (ℕ × Run) → List (ℕ × Run)
+with_entry id None entries = entries
+with_entry id (Some run) entries = (id, run) ∷ entries
+
+-- the runs of these ids that stand in a vector, one by one from this place on
+abbrev pub far_entries : ℕ → List ℕ → List (Option Run) → List (ℕ × Run)
+far_entries place [] slots = []
+far_entries place (id ∷ ids) slots =
+    with_entry id (slice_index_or slots place None) (far_entries (place + 1) ids slots)
+
+-- the runs of a map, those whose ids index a vector first
 abbrev pub entries_of : RunMap → List (ℕ × Run)
-entries_of runs = near_entries 0 runs.near.items ++ runs.far.entries
+entries_of runs = near_entries 0 runs.near.items ++ far_entries 0 runs.far_ids runs.far.items
 
 -- an id's run is put in, or taken out, and the others stay
 abbrev pub Updated : List (ℕ × Run) → List (ℕ × Run) → ℕ → Option Run → Type 0

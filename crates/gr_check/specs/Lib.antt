@@ -3,6 +3,7 @@ pub mod Marks
 pub mod Readings
 pub mod Refusals
 pub mod Runs
+pub mod Places
 pub mod Entries
 pub mod Checks
 pub mod Deletions

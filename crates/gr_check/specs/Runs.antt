@@ -1,5 +1,5 @@
 -- clauses as runs of one list of literals
-use Rattle.std.specs.Prelude.{ℕ, ◌+◌, ◌<◌, ◌≤◌, ◌≡◌, Bool, true, ◌&&◌, nat_le, List, [], ◌∷◌, map, length, take, drop, Option, Some, None, nat_eq, option_map, slice_index_or, slice_get, All}
+use Rattle.std.specs.Prelude.{ℕ, ◌+◌, ◌<◌, ◌≤◌, ◌≡◌, Bool, true, ◌&&◌, nat_le, List, [], ◌∷◌, if◌then◌else◌, map, length, take, drop, Option, Some, None, nat_eq, option_map, slice_index_or, slice_get, All}
 use Rattle.std.specs.Map.{lookup}
 use Rattle.std.specs.FinMap as finite
 use Rattle.gr_logic.specs.Literals.{Literal}
@@ -49,6 +49,23 @@ abbrev pub are_in_order : ℕ → List (Option Run) → Bool
 are_in_order end [] = true
 are_in_order end (slot ∷ slots) = begins_from end slot && are_in_order (end + run_length slot) slots
 
+-- a run, if there is one, begins no earlier than here, and ends within so many literals
+abbrev pub is_movable : ℕ → ℕ → Option Run → Bool
+is_movable count end None = true
+is_movable count end (Some run) = nat_le end run.from && nat_le (run.from + run.len) count
+
+-- where the runs end if they are moved together from here on, or nothing where one of them is before its new place, or
+-- ends beyond so many literals
+abbrev pub end_in_order : ℕ → ℕ → List (Option Run) → Option ℕ
+end_in_order count end [] = Some end
+end_in_order count end (slot ∷ slots) =
+    if is_movable count end slot then end_in_order count (end + run_length slot) slots else None
+
+-- where the runs end if they are moved together from here on
+abbrev pub end_of : ℕ → List (Option Run) → ℕ
+end_of end [] = end
+end_of end (slot ∷ slots) = end_of (end + run_length slot) slots
+
 -- the clauses whose runs these are, place by place
 abbrev pub clauses_in : List Literal → List (Option Run) → List (Option (List Literal))
 clauses_in lits slots = map (option_map (lits_of lits)) slots
@@ -59,6 +76,18 @@ pub record AreMoved (old_lits : List Literal) (old : List (Option Run)) (lits : 
     : Type 0 where
   pub within : All (IsRunWithin (length lits)) new
   pub same : clauses_in lits new ≡ clauses_in old_lits old
+
+-- runs that were moved together from a place on, up to an end, and the literals before and behind are the same
+pub record AreSlid (old_lits : List Literal) (old : List (Option Run)) (start : ℕ) (lits : List Literal)
+    (new : List (Option Run)) (end : ℕ)
+    : Type 0 where
+  pub ends : end ≡ end_of start old
+  pub started : start ≤ end
+  pub reached : end ≤ length lits
+  pub count : length lits ≡ length old_lits
+  pub kept : take start lits ≡ take start old_lits
+  pub rest : drop end lits ≡ drop end old_lits
+  pub moved : AreMoved old_lits old (take end lits) new
 
 -- each place has the run of its id's clause, or nothing where no clause has the id, and the firsts are these clauses'
 -- first literals

@@ -1,38 +1,45 @@
 // Clauses moved together within their vector of literals.
-ghost use Rattle.std.specs.Prelude.{◌≡◌, ◌+◌, ◌++◌, true, All, length, take, drop};
-ghost use Rattle.gr_check.specs.Runs.{AreMoved, IsRunWithin, are_in_order, begins_from, lits_in, moved_to, run_length};
+ghost use Rattle.std.specs.Prelude.{◌≡◌, ◌≤◌, ◌+◌, ◌++◌, true, All, length, take, drop};
+ghost use Rattle.gr_check.specs.Runs.{AreSlid, IsRunWithin, are_in_order, end_in_order, begins_from, lits_in, moved_to, run_length};
 
 use crate::runs::Run;
 use gr_logic::Lit;
 
-/// Whether each run begins no earlier than where it would end up if all were moved together to the front, one by one.
-/// Runs that were appended as their ids came are in order, whichever of them were taken out since.
-pub(crate) fn is_in_order(near: &[Option<Run>]) -> bool
-    ensures order { result ≡ are_in_order 0 near.now }
+/// Where the runs end if they are moved together from this place on, one by one: nothing where one of them begins before
+/// its new place, or ends beyond so many literals. Runs that were appended as their ids came are in order, whichever of
+/// them were taken out since.
+pub(crate) fn end_in_order(slots: &[Option<Run>], start: usize, count: usize) -> Option<usize>
+    ensures order { result ≡ end_in_order count start slots.now }
 {
-    let mut end = 0usize;
-    for slot in near {
+    let mut end = start;
+    for slot in slots {
         if let Some(run) = slot {
-            if (run.from as usize) < end {
-                return false;
+            let from = run.from as usize;
+            let len = run.len as usize;
+            if from < end {
+                return None;
             }
-            end += run.len as usize;
+            if count < from + len {
+                return None;
+            }
+            end += len;
         }
     }
-    true
+    Some(end)
 }
 
-/// Moves the literals of all runs together to the front, and says how many they are. What is behind them then is of no
-/// use any more. No memory is taken.
-pub(crate) fn slide(lits: &mut Vec<Lit>, near: &mut Vec<Option<Run>>) -> usize
-    requires order { are_in_order 0 near.old.items ≡ true }
-    requires within { All (IsRunWithin (length lits.old.items)) near.old.items }
-    ensures moved { AreMoved lits.old.items near.old.items (take result lits.new.items) near.new.items }
+/// Moves the literals of all runs together, from this place on, and says where they end. The literals before that place
+/// stay, and so do those behind the end, until more are moved. No memory is taken.
+pub(crate) fn slide(lits: &mut Vec<Lit>, slots: &mut Vec<Option<Run>>, start: usize) -> usize
+    requires start { start ≤ length lits.old.items }
+    requires order { are_in_order start slots.old.items ≡ true }
+    requires within { All (IsRunWithin (length lits.old.items)) slots.old.items }
+    ensures slid { AreSlid lits.old.items slots.old.items start lits.new.items slots.new.items result }
 {
-    let mut end = 0usize;
-    for i in 0..near.len() {
-        let slot = near[i];
-        near[i] = slide_slot(lits, slot, end);
+    let mut end = start;
+    for i in 0..slots.len() {
+        let slot = slots[i];
+        slots[i] = slide_slot(lits, slot, end);
         end += slot_len(slot);
     }
     end

@@ -4,6 +4,7 @@
 mod checker;
 mod compaction;
 mod deletions;
+mod far_ids;
 mod marks;
 mod pool;
 mod refusals;

@@ -1,13 +1,12 @@
 // The clauses that may be cited, their literals in one vector.
-ghost use Rattle.std.specs.Prelude.{◌≡◌, All, ◌≤◌, ◌+◌, ◌*◌, ◌++◌, [], length, None, Some, IfOk, OnOk, OnErr, MatchOption, option_map, slice_get};
+ghost use Rattle.std.specs.Prelude.{◌≡◌, ◌≤◌, ◌+◌, ◌*◌, ◌++◌, length, None, Some, IfOk, OnOk, OnErr, slice_get};
 ghost use Rattle.std.specs.FinMap as map;
-ghost use Rattle.gr_check.specs.Runs.{lits_of, AreLocated, AreMoved, IsRunWithin, lits_in};
+ghost use Rattle.gr_check.specs.Runs.{lits_of, AreLocated, IsRunWithin, lits_in};
 
-use crate::compaction::{is_in_order, slide};
+use crate::compaction::{end_in_order, slide};
 use crate::runs::{Run, RunMap};
 use gr_logic::{Lit, OutOfMemory};
 use std::alloc::Global;
-use std::collections::HashMap;
 use std::marker::Model;
 
 /// How many slots of ids a literal of a removed clause pays for, where a compaction walks over them.
@@ -113,7 +112,7 @@ impl Pool {
         ensures { self.new ≡ self.old }
     {
         if self.lacks_room(count) && self.is_sparse() {
-            self.compact(count);
+            self.compact();
         }
         if self.lacks_room(count) {
             self.lits.reserve_exact(growth(self.lits.len(), count))?;
@@ -133,47 +132,22 @@ impl Pool {
         self.dead > self.lits.len() / 5 && self.dead >= slots / SLOTS_PER_LITERAL
     }
 
-    /// Takes the literals of removed clauses out. Where all ids are in the vector of runs, which is in the order of
-    /// places as ids count up, the others are moved within their vector, and no memory is taken.
-    fn compact(&mut self, count: usize)
+    /// Takes the literals of removed clauses out. The others are moved within their vector, in the order of their ids,
+    /// and no memory is taken.
+    fn compact(&mut self)
         ensures { self.new ≡ self.old }
     {
-        if self.runs.far.is_empty() {
-            if is_in_order(&self.runs.near) {
-                let end = slide(&mut self.lits, &mut self.runs.near);
-                self.lits.truncate(end);
-                self.dead = 0;
-            }
+        let count = self.lits.len();
+        let Some(start) = end_in_order(&self.runs.near, 0, count) else {
+            return;
+        };
+        if end_in_order(&self.runs.far, start, count).is_none() {
             return;
         }
-        let live = self.lits.len().saturating_sub(self.dead);
-        if let Ok(pool) = self.compacted(live.saturating_add(growth(live, count))) {
-            *self = pool;
-        }
-    }
-
-    /// The same clauses in vectors of their own, with room for so many literals.
-    fn compacted(&self, room: usize) -> Result<Pool, OutOfMemory>
-        ensures { IfOk result (λ pool. pool ≡ self.now) }
-    {
-        let alloc = *self.lits.allocator();
-        let mut lits = Vec::with_capacity(alloc, room)?;
-        let near = copy_near(alloc, &self.runs.near, &self.lits, &mut lits)?;
-        let mut far = HashMap::new(alloc);
-        for (id, run) in self.runs.far.iter() {
-            if self.runs.near_run(*id).is_some() {
-                continue;
-            }
-            let moved = append(&mut lits, lits_at(&self.lits, *run))?;
-            far.insert(*id, moved)?;
-        }
-        let added = self.runs.added;
-        let runs = RunMap { near, far, added };
-        Ok(Pool {
-            lits,
-            runs,
-            dead: 0,
-        })
+        let middle = slide(&mut self.lits, &mut self.runs.near, 0);
+        let end = slide(&mut self.lits, &mut self.runs.far, middle);
+        self.lits.truncate(end);
+        self.dead = 0;
     }
 }
 
@@ -181,53 +155,14 @@ impl Pool {
 ///
 /// Let L be the literals of live clauses, with those to be appended. A vector that grows is not sparse, so it has at
 /// most 5/4 L, and the old one and the new one have room for 5/4 (1 + 4/3) L at most, which is less than 3 L. A full
-/// one has room for 5/3 L, where L is the most that there were at once, as it never shrinks: a compaction within it
-/// takes nothing, and one to a new vector takes 4/3 L more, 3 L together. Where the ids are many and L is small, a
-/// sixteenth of the slots may be dead literals besides: old and new have 7/48 of a literal for each slot more, a
-/// twentieth of what the slots take.
+/// one has room for 5/3 L, where L is the most that there were at once, as it never shrinks, and a compaction takes
+/// nothing more. Where the ids are many and L is small, a sixteenth of the slots may be dead literals besides: old and
+/// new have 7/48 of a literal for each slot more, a twentieth of what the slots take.
 fn growth(len: usize, count: usize) -> usize
     ensures enough { count ≤ result }
     ensures bounded { 3 * result ≤ len + 3 * count }
 {
     (len / 3).max(count)
-}
-
-/// Appends the literals of these runs, in order, and says where they are then.
-fn copy_near(
-    alloc: Global,
-    near: &[Option<Run>],
-    old_lits: &[Lit],
-    lits: &mut Vec<Lit>,
-) -> Result<Vec<Option<Run>>, OutOfMemory>
-    requires none { lits.old.items ≡ [] }
-    requires within { All (IsRunWithin (length old_lits.now)) near.now }
-    ensures { IfOk result (λ moved. AreMoved old_lits.now near.now lits.new.items moved.items) }
-{
-    let mut moved = Vec::with_capacity(alloc, near.len())?;
-    for slot in near {
-        let place = copy_slot(*slot, old_lits, lits)?;
-        moved.push(place)?;
-    }
-    Ok(moved)
-}
-
-/// Appends the literals of a run, if there is one, and says where they are then.
-fn copy_slot(
-    slot: Option<Run>,
-    old_lits: &[Lit],
-    lits: &mut Vec<Lit>,
-) -> Result<Option<Run>, OutOfMemory>
-    requires { IsRunWithin (length old_lits.now) slot }
-    ensures lits { OnOk result (lits.new.items ≡ lits.old.items ++ lits_in old_lits.now slot) }
-    ensures within { IfOk result (λ moved. IsRunWithin (length lits.new.items) moved) }
-    ensures same { IfOk result (λ moved.
-        option_map (lits_of lits.new.items) moved ≡ option_map (lits_of old_lits.now) slot) }
-{
-    let Some(run) = slot else {
-        return Ok(None);
-    };
-    let moved = append(lits, lits_at(old_lits, run))?;
-    Ok(Some(moved))
 }
 
 /// Appends a clause, and says where it is. Where it is has 32 bits, so memory ends at 2^32 literals.

@@ -5,10 +5,10 @@ use Rattle.gr_check.proofs.runs.clear_slot.Goals as goal
 
 pub returns-then-index-len : goal.returns-then-index-len
 returns-then-index-len c =
-    let in_range : c.args.index < length c.args.near.now.items = omega arith in
-    set_slot c.args.near.now.items c.args.index None in_range
+    let in_range : c.args.index < length c.args.slots.now.items = omega arith in
+    set_slot c.args.slots.now.items c.args.index None in_range
 
 pub returns-else-index-len : goal.returns-else-index-len
 returns-else-index-len c =
-    let beyond : length c.args.near.now.items ≤ c.args.index = omega arith in
-    past c.args.near.now.items c.args.index beyond
+    let beyond : length c.args.slots.now.items ≤ c.args.index = omega arith in
+    past c.args.slots.now.items c.args.index beyond

@@ -3,4 +3,4 @@ use Rattle.gr_check.proofs.Entries.{taken}
 use Rattle.gr_check.proofs.runs.RunMap.remove.Goals as goal
 
 pub returns-clause-left : goal.returns-clause-left
-returns-clause-left c = taken _ _ _ _ c.args.id c.clear_slot.ensures c.remove.ensures.updates.0
+returns-clause-left c = taken _ _ _ _ c.args.id c.clear_slot.ensures c.clear_far.ensures
