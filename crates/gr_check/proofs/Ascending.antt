@@ -9,20 +9,20 @@ use Rattle.gr_check.specs.Places.{AreAscending, IsPlaceOf, IsFound}
 -- they do not descend
 rising : (ids : List ℕ) → AreAscending ids → (i j : ℕ) → i ≤ j → j < length ids → get_or ids i 0 ≤ get_or ids j 0
 rising ids up i j le lt = elim (cases_lt i j) [
-      | inl before ↦ let less = up i j before lt in omega arith
-      | inr behind ↦ let same : i ≡ j = omega arith in let is = ap (λ k. get_or ids k 0) same in omega arith
-    ]
+  | inl before ↦ let less = up i j before lt in omega arith
+  | inr behind ↦ let same : i ≡ j = omega arith in let is = ap (λ k. get_or ids k 0) same in omega arith
+]
 
 -- no two of them are equal
 one_place : (ids : List ℕ) → AreAscending ids → (i j : ℕ) → i < length ids → j < length ids
     → get_or ids i 0 ≡ get_or ids j 0 → i ≡ j
 one_place ids up i j i_in j_in same = elim (cases_lt i j) [
-      | inl before ↦ absurd (let less = up i j before j_in in omega arith)
-      | inr behind ↦ elim (cases_lt j i) [
-          | inl after ↦ absurd (let less = up j i after i_in in omega arith)
-          | inr ahead ↦ omega arith
-        ]
-    ]
+  | inl before ↦ absurd (let less = up i j before j_in in omega arith)
+  | inr behind ↦ elim (cases_lt j i) [
+    | inl after ↦ absurd (let less = up j i after i_in in omega arith)
+    | inr ahead ↦ omega arith
+  ]
+]
 
 -- the place where an id was found
 pub found_at : (ids : List ℕ) (id place : ℕ) → AreAscending ids

@@ -226,5 +226,5 @@ pub far_behind : (ids : List ℕ) (slots new : List (Option Run)) (slot : Option
 far_behind ids slots new slot written =
     same_entries ids new slots 0
     (λ i lt.
-        let earlier : nat_eq (length ids) i ≡ false = grind (arith, nat_tests) in
-        from_start new i ∙ written i ∙ ap (λ b. cond b slot (get_or slots i None)) earlier ∙ sym (from_start slots i))
+    let earlier : nat_eq (length ids) i ≡ false = grind (arith, nat_tests) in
+    from_start new i ∙ written i ∙ ap (λ b. cond b slot (get_or slots i None)) earlier ∙ sym (from_start slots i))

@@ -181,8 +181,7 @@ ends_in_order count end last (slot ∷ slots) is = cases (is_movable count end s
         → (are_in_order end (slot ∷ slots) ≡ true) × All (IsRunWithin count) (slot ∷ slots)
         × (last ≡ end_of end (slot ∷ slots))
     cases true movable is others =
-        let rest = others is in
-        (
+        let rest = others is in (
           both (begins_from end slot) _ (movable_begins count end slot movable) rest.0,
           All-cons (IsRunWithin count) slot slots (movable_within count end slot movable) rest.1,
           rest.2,

@@ -138,7 +138,12 @@ fn slot_at(slots: &[Option<Run>], index: usize) -> Option<Run>
 }
 
 /// Puts a run behind the others, under an id that is greater than theirs.
-fn push_far(far_ids: &mut FarIds, far: &mut Vec<Option<Run>>, id: u64, run: Run) -> Result<(), OutOfMemory>
+fn push_far(
+    far_ids: &mut FarIds,
+    far: &mut Vec<Option<Run>>,
+    id: u64,
+    run: Run,
+) -> Result<(), OutOfMemory>
     requires { All (λ other. other < id) far_ids.old }
     ensures ok { OnOk result (Updated (far_entries 0 far_ids.old far.old.items)
         (far_entries 0 far_ids.new far.new.items) id (Some run)) }

@@ -63,15 +63,17 @@ pub returns : goal.returns
 returns c =
     let all : length c.args.slots.now.items ≤ c.loop-i.i = omega (arith, c.loop-i.invariant.count_slots) in
     let all_new : length c.loop-i.slots.items ≤ c.loop-i.i = omega arith in
-    record { slid = record {
-      ends =
-          sym (last_end c.args.slots.now.items c.loop-i.i c.loop-i.end all) ∙ c.loop-i.invariant.ends;
-      started = c.loop-i.invariant.started;
-      reached = c.loop-i.invariant.end_within;
-      count = c.loop-i.invariant.count;
-      kept = c.loop-i.invariant.kept;
-      rest = c.loop-i.invariant.rest;
-      moved =
-          rw (take_all c.loop-i.i c.args.slots.now.items all, take_all c.loop-i.i c.loop-i.slots.items all_new)
-          at c.loop-i.invariant.moved;
-    } }
+    record {
+      slid = record {
+        ends =
+            sym (last_end c.args.slots.now.items c.loop-i.i c.loop-i.end all) ∙ c.loop-i.invariant.ends;
+        started = c.loop-i.invariant.started;
+        reached = c.loop-i.invariant.end_within;
+        count = c.loop-i.invariant.count;
+        kept = c.loop-i.invariant.kept;
+        rest = c.loop-i.invariant.rest;
+        moved =
+            rw (take_all c.loop-i.i c.args.slots.now.items all, take_all c.loop-i.i c.loop-i.slots.items all_new)
+            at c.loop-i.invariant.moved;
+      };
+    }
