@@ -1,10 +1,10 @@
 -- ids in ascending order, searched by halving
-use Rattle.std.proofs.Common.{◌≡◌, ◌≢◌, ℕ, ◌<◌, ◌≤◌, inl, inr, List, length, Option, Some, None, Result, Ok, Err, get_or, refl, ap, sym, ◌∙◌, arith}
+use Rattle.std.proofs.Common.{◌≡◌, ◌≢◌, ℕ, ◌<◌, ◌≤◌, inl, inr, List, length, Ok, Err, get_or, ap, sym, ◌∙◌, arith}
 use Rattle.std.specs.List.Sorted.{IsBinarySearchResult}
 use Rattle.std.specs.Ordering.{nat_cmp}
 use Rattle.std.proofs.lemmas.Bool.{cases_lt}
 use Rattle.std.proofs.lemmas.List.Sorted.{searched}
-use Rattle.gr_check.specs.Places.{AreAscending, IsPlaceOf, IsFound}
+use Rattle.gr_check.specs.Places.{AreAscending, IsPlaceOf}
 
 -- they do not descend
 rising : (ids : List ℕ) → AreAscending ids → (i j : ℕ) → i ≤ j → j < length ids → get_or ids i 0 ≤ get_or ids j 0

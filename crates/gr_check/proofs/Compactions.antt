@@ -1,5 +1,5 @@
 -- the clauses of both vectors of runs after their literals were moved
-use Rattle.std.proofs.Common.{◌≡◌, ℕ, ◌+◌, ◌≤◌, Bool, true, false, List, [], ◌∷◌, ◌++◌, map, take, length, Option, Some, None, cond, nat_eq, get_or, refl, sym, ap, ◌∙◌, arith}
+use Rattle.std.proofs.Common.{◌≡◌, ℕ, ◌+◌, ◌≤◌, Bool, true, false, List, [], ◌∷◌, ◌++◌, map, take, length, Option, Some, None, cond, nat_eq, get_or, refl, sym, ap, ◌∙◌}
 use Rattle.std.specs.Prelude.{option_map, is_some, All}
 use Rattle.std.specs.Map.{lookup}
 use Rattle.std.specs.FinMap as finite

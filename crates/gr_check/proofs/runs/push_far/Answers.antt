@@ -1,6 +1,5 @@
 -- a run is put behind the others
 use Rattle.std.proofs.Common.{Result, Ok, Err, OnErr, Some, length, ap, ◌∙◌}
-use Rattle.gr_check.specs.Entries.{IsWritten}
 use Rattle.gr_check.proofs.FarEntries.{far_pushed, far_behind}
 use Rattle.gr_check.proofs.runs.push_far.Goals as goal
 
