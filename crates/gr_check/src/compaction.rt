@@ -5,9 +5,9 @@ ghost use Rattle.gr_check.specs.Runs.{AreSlid, IsRunWithin, are_in_order, end_in
 use crate::runs::Run;
 use gr_logic::Lit;
 
-/// Where the runs end if they are moved together from this place on, one by one: nothing where one of them begins before
-/// its new place, or ends beyond so many literals. Runs that were appended as their ids came are in order, whichever of
-/// them were taken out since.
+/// Where the runs end if they are moved together from this place on, one by one: nothing where one of them begins
+/// before its new place, or ends beyond so many literals. Runs that were appended as their ids came are in order,
+/// whichever of them were taken out since.
 pub(crate) fn end_in_order(slots: &[Option<Run>], start: usize, count: usize) -> Option<usize>
     ensures order { result ≡ end_in_order count start slots.now }
 {

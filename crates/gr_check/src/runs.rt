@@ -177,7 +177,8 @@ fn put_slot(slots: &mut Vec<Option<Run>>, index: usize, run: Run) -> Result<(), 
 /// Makes the vector reach beyond the index.
 fn reach_slot(slots: &mut Vec<Option<Run>>, index: usize) -> Result<(), OutOfMemory>
     ensures ok { OnOk result (index < vec_len slots.new) }
-    ensures same { OnOk result ((q : ℕ) → slice_index_or slots.new.items q None ≡ slice_index_or slots.old.items q None) }
+    ensures same { OnOk result ((q : ℕ) →
+        slice_index_or slots.new.items q None ≡ slice_index_or slots.old.items q None) }
     ensures err { OnErr result (slots.new.items ≡ slots.old.items) }
 {
     if index < slots.len() {

@@ -12,7 +12,8 @@ slide_slot-requires-clause-within c =
     let in_old : c.loop-i.i < length c.args.slots.now.items = omega (arith, c.loop-i.invariant.count_slots) in
     let slot : c.index-slot.result.now ≡ get_or c.args.slots.now.items c.loop-i.i None =
     get_or_read c.loop-i.slots.items c.loop-i.i _ in_range c.index-slot.ensures None
-    ∙ same_slot_at c.loop-i.slots.items c.args.slots.now.items c.loop-i.i in_range in_old c.loop-i.invariant.same_slots in
+    ∙ same_slot_at c.loop-i.slots.items c.args.slots.now.items c.loop-i.i in_range in_old
+    c.loop-i.invariant.same_slots in
     rw (slot, c.loop-i.invariant.count) (c.requires.within c.loop-i.i None in_old)
 
 pub loop-i-preserved : goal.loop-i-preserved
@@ -21,7 +22,8 @@ loop-i-preserved c =
     let in_old : c.loop-i.i < length c.args.slots.now.items = omega (arith, c.loop-i.invariant.count_slots) in
     let slot : c.index-slot.result.now ≡ get_or c.args.slots.now.items c.loop-i.i None =
     get_or_read c.loop-i.slots.items c.loop-i.i _ in_range c.index-slot.ensures None
-    ∙ same_slot_at c.loop-i.slots.items c.args.slots.now.items c.loop-i.i in_range in_old c.loop-i.invariant.same_slots in
+    ∙ same_slot_at c.loop-i.slots.items c.args.slots.now.items c.loop-i.i in_range in_old
+    c.loop-i.invariant.same_slots in
     let begins : begins_from c.loop-i.end (get_or c.args.slots.now.items c.loop-i.i None) ≡ true =
     next_begins c.args.slots.now.items c.loop-i.i c.loop-i.end in_old c.loop-i.invariant.order in
     let within : IsRunWithin (length c.loop-i.lits.items) (get_or c.args.slots.now.items c.loop-i.i None) =
