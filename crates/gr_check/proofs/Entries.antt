@@ -57,13 +57,6 @@ pub in_far : (slots : List (Option Run)) (far : List (ℕ × Run)) (q : ℕ) (fo
 in_far slots far q found is here =
     ap (λ x. or_else x (lookup (nat_eq q) far)) (sym is ∙ here) ∙ sym (lookup-entries slots far q)
 
--- a run that only the map has
-pub only_far : (slots : List (Option Run)) (far : List (ℕ × Run)) (q : ℕ) (run : Run)
-    → get_or slots q None ≡ None → lookup (nat_eq q) far ≡ Some run
-    → lookup (nat_eq q) (near_entries 0 slots ++ far) ≡ Some run
-only_far slots far q run none found =
-    lookup-entries slots far q ∙ ap (λ x. or_else x (lookup (nat_eq q) far)) none ∙ found
-
 -- one slot is written
 pub set_slot : (slots : List (Option Run)) (id : ℕ) (slot : Option Run) → id < length slots
     → IsWritten slots (set slots id slot) id slot

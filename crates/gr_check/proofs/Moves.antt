@@ -1,6 +1,6 @@
 -- runs whose literals are copied, one by one
-use Rattle.std.proofs.Common.{◌≡◌, ℕ, suc, ◌+◌, ◌<◌, ◌≤◌, false, inl, inr, List, [], ◌∷◌, ◌++◌, take, length, Option, Some, None, refl, sym, ap, ◌∙◌, arith, get_or}
-use Rattle.std.specs.Prelude.{option_map, is_some, All}
+use Rattle.std.proofs.Common.{◌≡◌, ℕ, ◌+◌, ◌<◌, ◌≤◌, inl, inr, List, [], ◌∷◌, ◌++◌, take, length, Option, Some, None, refl, sym, ap, ◌∙◌, arith, get_or}
+use Rattle.std.specs.Prelude.{option_map, All}
 use Rattle.std.proofs.Math.ListN.{get_or-map}
 use Rattle.std.proofs.lemmas.List.{length-append, map-append, take_more, get_or_past}
 use Rattle.std.proofs.lemmas.Bool.{cases_lt}
@@ -8,7 +8,7 @@ use Rattle.std.proofs.lemmas.List.Elements.{All-nil, All-cons, All-head, All-tai
 use Rattle.gr_logic.specs.Literals.{Literal}
 use Rattle.gr_check.specs.Runs.{lits_of, IsRunWithin, clauses_in, AreMoved}
 use Rattle.gr_check.specs.declared.runs.Run.{Run}
-use Rattle.gr_check.proofs.RunMaps.{lits_of-append, is_some-option_map}
+use Rattle.gr_check.proofs.RunMaps.{lits_of-append}
 
 -- literals that are appended leave a run within
 pub longer : (lits c : List Literal) (slot : Option Run) → IsRunWithin (length lits) slot
@@ -63,15 +63,6 @@ pub found_within : (count : ℕ) (found : Option Run)
 found_within count None one = tt
 found_within count (Some run) one = one run refl
 
--- what holds of each run that is found holds of all
-pub all_within : (count : ℕ) (slots : List (Option Run))
-    → ((q : ℕ) (run : Run) → get_or slots q None ≡ Some run → run.from + run.len ≤ count)
-    → All (IsRunWithin count) slots
-all_within count [] each = All-nil (IsRunWithin count)
-all_within count (slot ∷ slots) each =
-    All-cons (IsRunWithin count) slot slots (found_within count slot (each 0))
-    (all_within count slots (λ q. each (suc q)))
-
 -- one more run of a vector is moved
 pub moved_next : (old_lits lits c new_lits : List Literal) (old new more : List (Option Run)) (i : ℕ)
     (place : Option Run)
@@ -105,17 +96,3 @@ pub same_places : (old_lits lits : List Literal) (old new : List (Option Run))
     → option_map (lits_of lits) (get_or new q None) ≡ option_map (lits_of old_lits) (get_or old q None)
 same_places old_lits lits old new same q =
     sym (clause_at lits new q) ∙ ap (λ xs. get_or xs q None) same ∙ clause_at old_lits old q
-
--- one is there where the other is
-pub both_there : (old_lits lits : List Literal) (old new : List (Option Run))
-    → clauses_in lits new ≡ clauses_in old_lits old → (q : ℕ)
-    → is_some (get_or new q None) ≡ is_some (get_or old q None)
-both_there old_lits lits old new same q =
-    sym (is_some-option_map (lits_of lits) (get_or new q None))
-    ∙ ap is_some (same_places old_lits lits old new same q)
-    ∙ is_some-option_map (lits_of old_lits) (get_or old q None)
-
--- what is not there
-pub none_there : (found : Option Run) → is_some found ≡ false → found ≡ None
-none_there None none = refl
-none_there (Some run) none = absurd (cc)
