@@ -50,6 +50,13 @@ impl Watches {
         Ok(Watches { alloc, vars, lists })
     }
 
+    /// The number of variables.
+    pub fn vars(&self) -> u32
+        ensures { result ≡ self.now.vars }
+    {
+        self.vars
+    }
+
     /// The watches of a literal.
     pub fn list(&self, lit: Lit) -> &[Watch]
         requires { lit.index < self.now.vars }

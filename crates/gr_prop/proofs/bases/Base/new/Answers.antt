@@ -1,0 +1,17 @@
+use Rattle.std.proofs.Common.{◌≡◌, None, false, ap, sym, ◌∙◌, refl}
+use Rattle.gr_prop.specs.Bases.{clauses_in, empty_base}
+use Rattle.gr_prop.proofs.Deciding.{kept-empty, empty-clauses}
+use Rattle.gr_prop.proofs.bases.Base.new.Goals as goal
+
+pub invariant_of-result : goal.invariant_of-result
+invariant_of-result c =
+    rw (c.new-3.ensures, c.in_ok-trail.ensures, c.in_ok-watches.ensures, c.new-4.ensures, c.new-5.ensures.items)
+    (kept-empty c.args.vars)
+
+pub returns : goal.returns
+returns c = λ i. record {
+  clauses = (ap (λ a. clauses_in a.clauses) c.new-3.ensures ∙ empty-clauses) i;
+  trail = c.in_ok-trail.ensures i;
+  quiet = false;
+  conflict = None;
+}

@@ -1,0 +1,9 @@
+pub mod Bases
+pub mod BaseChanges
+pub mod BaseCodes
+pub mod Ascending
+pub mod Watching
+pub mod Visits
+pub mod Walking
+pub mod Additions
+pub mod Compactions
