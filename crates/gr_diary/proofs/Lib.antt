@@ -21,6 +21,9 @@ pub mod Units
 pub mod Justified
 pub mod WholeRun
 pub mod ShorteningRun
+pub mod NotShorter
+pub mod SkippingRun
+pub mod TwoResults
 pub mod Repeated
 pub mod SevenBits
 pub mod Groups

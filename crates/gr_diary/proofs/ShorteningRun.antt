@@ -51,7 +51,7 @@ state4 = after pairs 1 2 state3 (Take 1)
 abbrev state5 : State
 state5 = after pairs 1 2 state4 (Forget 0 (4 ∷ []))
 
-abbrev state6 : State
+abbrev pub state6 : State
 state6 = after pairs 1 2 state5 (Forget 0 (5 ∷ []))
 
 abbrev state7 : State
@@ -73,7 +73,7 @@ look2 = look_after look1 5 (addition_of offer5) []
 abbrev look3 : Live
 look3 = look_after look2 6 (addition_of offer6) []
 
-abbrev look5 : Live
+abbrev pub look5 : Live
 look5 = look_after look3 7 None (4 ∷ [])
 
 abbrev look7 : Live
@@ -94,7 +94,7 @@ looks4 = after-looks pairs 1 2 state3 look3 (Take 1) [] looks3 refl
 looks5 : Looks state5 look5
 looks5 = after-looks pairs 1 2 state4 look3 (Forget 0 (4 ∷ [])) (4 ∷ []) looks4 refl
 
-looks6 : Looks state6 look5
+pub looks6 : Looks state6 look5
 looks6 = after-looks pairs 1 2 state5 look5 (Forget 0 (5 ∷ [])) [] looks5 refl
 
 looks7 : Looks state7 look7
@@ -106,17 +106,17 @@ looks8 = after-looks pairs 1 2 state7 look7 Import [] looks7 refl
 looks9 : Looks state9 look7
 looks9 = after-looks pairs 1 2 state8 look7 Drained [] looks8 refl
 
-abbrev part6 : Part
+abbrev pub part6 : Part
 part6 = part_by pairs state6 look5 1
 
 -- the reducer holds no clause but the one that it has taken
-abbrev others : ClauseFamily
+abbrev pub others : ClauseFamily
 others = others_of part6 5
 
-abbrev whole : List Literal
+abbrev pub whole : List Literal
 whole = map plus (1 ∷ 2 ∷ 3 ∷ 4 ∷ 6 ∷ [])
 
-abbrev short : List Literal
+abbrev pub short : List Literal
 short = plus 1 ∷ plus 2 ∷ []
 
 others-are : AreThese others pairs.clauses
@@ -180,7 +180,7 @@ two-follows set within closed =
     Other : Literal → Type 0
     Other q = same_literal q (plus 2) ≡ false → set (negation q) ≡ true
 
-keeps-short : GreedyKeeps others whole short
+pub keeps-short : GreedyKeeps others whole short
 keeps-short =
     inr (
       no-conflict others pairs.clauses (negated []) [] others-are refl nothing refl refl,
@@ -341,7 +341,7 @@ keeps-not-all keeps =
     let has : members short (plus 3) ≡ true = ap (λ ls. members ls (plus 3)) kept ∙ keeps.2 (plus 3) refl in
     cc has
 
-one-value : (c d : List Literal) → Some c ≡ Some d → d ≡ c
+pub one-value : (c d : List Literal) → Some c ≡ Some d → d ≡ c
 one-value c d same = let fact : c ≡ d = cc same in sym fact
 
 not-same : IsAble pairs 1 part6 (Return 1 Same) → ⊥

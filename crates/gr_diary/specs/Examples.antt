@@ -157,6 +157,74 @@ ShorteningRunIsLegal =
 abbrev pub ShorterIsNotSame : Type 0
 ShorterIsNotSame = ¬ IsLegal pairs 1 2 (taken_run ++ Return 1 Same ∷ [])
 
+-- the part `1 2` given back, as in the run above
+abbrev pub give_pair : Entry
+give_pair = Return 1 (Shorter (plus 1 ∷ plus 2 ∷ []) (1 ∷ []))
+
+-- nor give the whole clause back as a shorter one, nor a part beyond what greedy strengthening keeps, though the unit
+-- steps accept it
+abbrev pub ShorterIsWithinKept : Type 0
+ShorterIsWithinKept =
+    (rup (part_after pairs 1 2 taken_run 1).cites (map plus (1 ∷ 2 ∷ 3 ∷ [])) (1 ∷ []) ≡ Accepted)
+    × (¬ IsLegal pairs 1 2 (taken_run ++ Return 1 (Shorter (map plus (1 ∷ 2 ∷ 3 ∷ 4 ∷ 6 ∷ [])) (1 ∷ [])) ∷ []))
+    × (¬ IsLegal pairs 1 2 (taken_run ++ Return 1 (Shorter (map plus (1 ∷ 2 ∷ 3 ∷ [])) (1 ∷ [])) ∷ []))
+
+-- a taken clause is given back once
+abbrev pub ReturnsAreSingle : Type 0
+ReturnsAreSingle =
+    (¬ IsLegal pairs 1 2 (taken_run ++ give_pair ∷ Return 1 Same ∷ []))
+    × (¬ IsLegal pairs 1 2 (taken_run ++ give_pair ∷ Return 1 (Shorter (plus 1 ∷ plus 2 ∷ []) (7 ∷ [])) ∷ []))
+
+-- the formula `1 -2`, `1 2 3 4`, `1 2 3 -4`
+abbrev pub skips : Cnf
+skips = record {
+  vars = 4;
+  clauses =
+      (plus 1 ∷ minus 2 ∷ []) ∷ (plus 1 ∷ plus 2 ∷ plus 3 ∷ plus 4 ∷ [])
+      ∷ (plus 1 ∷ plus 2 ∷ plus 3 ∷ minus 4 ∷ []) ∷ [];
+}
+
+-- the clause `1 2 3` is given back as `1 3`, since 2 is false where 1 is; the searching thread takes that over
+abbrev pub skipping_run : List Entry
+skipping_run =
+    Learn (plus 1 ∷ plus 2 ∷ plus 3 ∷ []) (2 ∷ 3 ∷ []) 2 true ∷ Take 1
+    ∷ Return 1 (Shorter (plus 1 ∷ plus 3 ∷ []) (1 ∷ 2 ∷ 3 ∷ [])) ∷ Import ∷ Close ∷ []
+
+-- greedy strengthening goes on behind a literal that it leaves out; the clause that was shortened leaves with the import,
+-- by which the searching thread, its last holder, lets it go
+abbrev pub SkippingRunIsLegal : Type 0
+SkippingRunIsLegal =
+    IsLegal skips 1 1 skipping_run
+    × (lines_of skips 1 1 skipping_run
+    ≡ Add 4 (plus 1 ∷ plus 2 ∷ plus 3 ∷ []) (2 ∷ 3 ∷ []) ∷ Add 5 (plus 1 ∷ plus 3 ∷ []) (1 ∷ 2 ∷ 3 ∷ [])
+    ∷ Delete 5 (4 ∷ []) ∷ [])
+
+-- over `chain` the clause `-1 3 4`, learnt from all three clauses and offered
+abbrev pub offer_longer : Entry
+offer_longer = Learn (minus 1 ∷ plus 3 ∷ plus 4 ∷ []) (1 ∷ 2 ∷ 3 ∷ []) 2 true
+
+-- its part `3 4` given back
+abbrev pub give_part : Entry
+give_part = Return 1 (Shorter (plus 3 ∷ plus 4 ∷ []) (1 ∷ 2 ∷ 3 ∷ []))
+
+-- the reducer shares its unit clause, then gives the part back; the searching thread takes both over, and lets the unit
+-- clause go before the part comes
+abbrev pub two_results_run : List Entry
+two_results_run =
+    offer_longer ∷ Take 1 ∷ share_two ∷ give_part ∷ Import ∷ Forget 0 (5 ∷ []) ∷ Import ∷ Forget 0 (6 ∷ []) ∷ Close ∷ []
+
+-- results are taken over in the order in which they came, and just the one that stands for a clause lets that clause go
+abbrev pub TwoResultsRunIsLegal : Type 0
+TwoResultsRunIsLegal =
+    IsLegal chain 1 1 two_results_run
+    × (lines_of chain 1 1 two_results_run
+    ≡ Add 4 (minus 1 ∷ plus 3 ∷ plus 4 ∷ []) (1 ∷ 2 ∷ 3 ∷ []) ∷ Add 5 (plus 2 ∷ []) (1 ∷ 2 ∷ [])
+    ∷ Add 6 (plus 3 ∷ plus 4 ∷ []) (1 ∷ 2 ∷ 3 ∷ []) ∷ Delete 6 (4 ∷ []) ∷ [])
+
+-- before its unit clause is shared, the reducer may not give the part back either
+abbrev pub UnitsComeBeforeShorter : Type 0
+UnitsComeBeforeShorter = ¬ IsLegal chain 1 1 (offer_longer ∷ Take 1 ∷ give_part ∷ [])
+
 -- a clause that repeats its one literal is the unit clause of that literal, as any clause is read as a set
 abbrev pub RepeatedLiteralIsUnit : Type 0
 RepeatedLiteralIsUnit = HasItsUnits (listed ((plus 1 ∷ plus 1 ∷ []) ∷ []))

@@ -1,5 +1,5 @@
 // Small histories, legal or made illegal by a single entry: each is the contract of a function that does nothing.
-ghost use Rattle.gr_diary.specs.Examples.{RefutationIsLegal, UnreadHintCounts, EndsAreLast, EmptyListsGiveNothing, WholeRunIsLegal, UnitsComeFirst, TakesAreSingle, DrainedMeansEmpty, ForgetsAreInOrder, LearnsAreInBounds, LearnsAreNormal, ShorteningRunIsLegal, ShorterIsNotSame, RepeatedLiteralIsUnit};
+ghost use Rattle.gr_diary.specs.Examples.{RefutationIsLegal, UnreadHintCounts, EndsAreLast, EmptyListsGiveNothing, WholeRunIsLegal, UnitsComeFirst, TakesAreSingle, DrainedMeansEmpty, ForgetsAreInOrder, LearnsAreInBounds, LearnsAreNormal, ShorteningRunIsLegal, ShorterIsNotSame, ShorterIsWithinKept, ReturnsAreSingle, SkippingRunIsLegal, TwoResultsRunIsLegal, UnitsComeBeforeShorter, RepeatedLiteralIsUnit};
 
 /// The empty clause, learnt from `1` and `-1`.
 pub fn refutation_is_legal()
@@ -64,6 +64,31 @@ pub fn shortening_run_is_legal()
 /// A reducer may not keep what greedy strengthening leaves out.
 pub fn shorter_is_not_same()
     ensures { ShorterIsNotSame }
+{}
+
+/// What is given back for a clause is a proper part of it, within what greedy strengthening keeps.
+pub fn shorter_is_within_kept()
+    ensures { ShorterIsWithinKept }
+{}
+
+/// A taken clause is given back once.
+pub fn returns_are_single()
+    ensures { ReturnsAreSingle }
+{}
+
+/// A literal in the middle of a clause is left out.
+pub fn skipping_run_is_legal()
+    ensures { SkippingRunIsLegal }
+{}
+
+/// Two results of a reducer are taken over in their order.
+pub fn two_results_run_is_legal()
+    ensures { TwoResultsRunIsLegal }
+{}
+
+/// A reducer shares its unit clauses before it gives a shorter clause back.
+pub fn units_come_before_shorter()
+    ensures { UnitsComeBeforeShorter }
 {}
 
 /// Whether a literal is a clause by itself is read off the clause's set.
