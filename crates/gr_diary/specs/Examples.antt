@@ -157,10 +157,6 @@ ShorteningRunIsLegal =
 abbrev pub ShorterIsNotSame : Type 0
 ShorterIsNotSame = ¬ IsLegal pairs 1 2 (taken_run ++ Return 1 Same ∷ [])
 
--- the part `1 2` given back, as in the run above
-abbrev pub give_pair : Entry
-give_pair = Return 1 (Shorter (plus 1 ∷ plus 2 ∷ []) (1 ∷ []))
-
 -- nor give the whole clause back as a shorter one, nor a part beyond what greedy strengthening keeps, though the unit
 -- steps accept it
 abbrev pub ShorterIsWithinKept : Type 0
@@ -168,6 +164,10 @@ ShorterIsWithinKept =
     (rup (part_after pairs 1 2 taken_run 1).cites (map plus (1 ∷ 2 ∷ 3 ∷ [])) (1 ∷ []) ≡ Accepted)
     × (¬ IsLegal pairs 1 2 (taken_run ++ Return 1 (Shorter (map plus (1 ∷ 2 ∷ 3 ∷ 4 ∷ 6 ∷ [])) (1 ∷ [])) ∷ []))
     × (¬ IsLegal pairs 1 2 (taken_run ++ Return 1 (Shorter (map plus (1 ∷ 2 ∷ 3 ∷ [])) (1 ∷ [])) ∷ []))
+
+-- the part `1 2` given back, as in the run above
+abbrev pub give_pair : Entry
+give_pair = Return 1 (Shorter (plus 1 ∷ plus 2 ∷ []) (1 ∷ []))
 
 -- a taken clause is given back once
 abbrev pub ReturnsAreSingle : Type 0
