@@ -8,9 +8,11 @@ pub record RestartState : Type 0 where
   pub total : ℕ
   pub window : List ℕ
 
+-- a state by its three parts
 abbrev pub restart_state : ℕ → ℕ → List ℕ → RestartState
 restart_state n a w = record { pushes = n; total = a; window = w }
 
+-- the state before the first push
 abbrev pub no_pushes : RestartState
 no_pushes = restart_state 0 0 []
 
@@ -18,10 +20,12 @@ no_pushes = restart_state 0 0 []
 abbrev pub last_fifty : List ℕ → List ℕ
 last_fifty w = drop (length w - 50) w
 
+-- what happens to the state: an LBD is pushed, or the window is emptied, as after a restart
 pub data RestartMove : Type 0 where
   push : ℕ → RestartMove
   clear : RestartMove
 
+-- the state behind one move: a push counts and is kept in the window, and emptying the window leaves count and sum
 abbrev pub after_move : RestartState → RestartMove → RestartState
 after_move s (push lbd) = restart_state (s.pushes + 1) (s.total + lbd) (last_fifty (s.window ++ lbd ∷ []))
 after_move s clear = restart_state s.pushes s.total []
