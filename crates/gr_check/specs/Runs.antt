@@ -90,12 +90,12 @@ pub record AreSlid (old_lits : List Literal) (old : List (Option Run)) (start : 
   pub moved : AreMoved old_lits old (take end lits) new
 
 -- each place has the run of its id's clause, or nothing where no clause has the id, and the firsts are these clauses'
--- first literals
+-- first literals; what stands behind the ids' places is of no matter
 pub record AreLocated (clauses : Clauses) (lits : List Literal) (ids : List ℕ)
     (places : List (Option Run)) (firsts : List (Option Literal))
     : Type 0 where
-  pub count : length places ≡ length ids
-  pub count_firsts : length firsts ≡ length ids
+  pub count : length ids ≤ length places
+  pub count_firsts : length ids ≤ length firsts
   pub within : (k : ℕ) → k < length ids → (run : Run) → slice_index_or places k None ≡ Some run
       → run.from + run.len ≤ length lits
   pub found : (k : ℕ) → k < length ids

@@ -53,7 +53,8 @@ impl Pool {
     }
 
     /// Where the clauses of these ids are among the literals, which are lent, and the first literal of each. None of
-    /// these reads waits for another, so the memory is fetched side by side, before a clause is read on.
+    /// these reads waits for another, so the memory is fetched side by side, before a clause is read on. The vectors
+    /// may be longer than the list of ids.
     pub(crate) fn locate(
         &self,
         ids: &[u64],
@@ -62,13 +63,17 @@ impl Pool {
     ) -> Result<&[Lit], OutOfMemory>
         ensures { IfOk result (λ lits. AreLocated self.now lits.now ids.now places.new.items firsts.new.items) }
     {
-        places.clear();
-        firsts.clear();
-        for id in ids {
-            let place = self.runs.get(*id);
-            let first = first_at(&self.lits, place);
-            places.push(place)?;
-            firsts.push(first)?;
+        if places.len() < ids.len() {
+            places.resize(ids.len(), None)?;
+        }
+        if firsts.len() < ids.len() {
+            firsts.resize(ids.len(), None)?;
+        }
+        for (i, id) in ids.iter().enumerate() {
+            places[i] = self.runs.get(*id);
+        }
+        for k in 0..ids.len() {
+            firsts[k] = first_at(&self.lits, places[k]);
         }
         Ok(self.lits.as_slice())
     }
