@@ -7,6 +7,7 @@ pub mod Invariant
 pub mod SearchRules
 pub mod Laws
 pub mod Examples
+pub mod ExampleRuns
 pub mod RuleLaws
 pub mod Packing
 pub mod Unpacking
