@@ -2,7 +2,7 @@ use Rattle.std.proofs.Common.{◌≡◌, ◌<◌, ◌≤◌, All, take, length, 
 use Rattle.std.proofs.lemmas.List.{take_all}
 use Rattle.std.proofs.lemmas.List.Elements.{All-more}
 use Rattle.gr_logic.specs.Literals.{Literal}
-use Rattle.gr_prop.proofs.tests.are_known.Goals as goal
+use Rattle.gr_prop.proofs.tests.calls.are_known.Goals as goal
 
 pub loop-index-preserved : goal.loop-index-preserved
 loop-index-preserved c =

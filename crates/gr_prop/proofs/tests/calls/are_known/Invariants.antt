@@ -1,5 +1,5 @@
 use Rattle.std.proofs.Common.{length, ◌-◌, ◌≡◌, ◌≤◌, ◌<◌, All, take}
-use Rattle.gr_prop.proofs.tests.are_known.Given as goal
+use Rattle.gr_prop.proofs.tests.calls.are_known.Given as goal
 
 abbrev pub invariant-loop-index : goal.invariant-loop-index
 invariant-loop-index l = record {

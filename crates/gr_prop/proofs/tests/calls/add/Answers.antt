@@ -1,7 +1,7 @@
 use Rattle.std.proofs.Common.{◌≡◌, sym, ap, subst}
 use Rattle.gr_logic.specs.NormalForms.{IsNormal}
 use Rattle.gr_logic.proofs.FirstOccurrences.{normal-forms}
-use Rattle.gr_prop.proofs.tests.add.Goals as goal
+use Rattle.gr_prop.proofs.tests.calls.add.Goals as goal
 
 pub add-requires-clause-normal : goal.add-requires-clause-normal
 add-requires-clause-normal c =
