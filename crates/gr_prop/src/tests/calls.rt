@@ -97,8 +97,12 @@ pub(super) fn forced_by(trail: &Trail, place: Place) -> Option<Lit>
     let lits = trail.lits();
     let mut index = 0;
     while index < lits.len() {
-        if trail.reason(lits[index].var()) == Some(place) {
-            return Some(lits[index]);
+        let lit = lits[index];
+        let var = lit.var();
+        if let Some(reason) = trail.reason(var) {
+            if reason.0 == place.0 {
+                return Some(lit);
+            }
         }
         index += 1;
     }
@@ -123,7 +127,7 @@ pub(super) fn remove(base: &mut Base, id: u64) -> bool
 /// Settles a literal that is true at level zero.
 pub(super) fn settle(base: &mut Base, lit: Lit, id: u64) -> Result<Place, Fail>
     requires { base.old.trail.vars ≡ 6 }
-    ensures { OnOk result (base.new.trail.vars ≡ 6) }
+    ensures { OnOk result (base.new.trail.depth ≡ 0) }
 {
     if base.trail().depth() != 0 {
         return Err(Fail::from("above level zero"));
@@ -140,8 +144,10 @@ pub(super) fn settle(base: &mut Base, lit: Lit, id: u64) -> Result<Place, Fail>
     Ok(base.settle(lit, id)?)
 }
 
-/// The literals of the clause of an id.
-pub(super) fn lits_of(base: &Base, id: u64) -> Option<&[Lit]> {
-    let place = base.find(id)?;
-    Some(base.arena().lits(place))
+/// Whether the clause of an id has these literals, in this order.
+pub(super) fn has_lits(base: &Base, id: u64, lits: &[Lit]) -> bool {
+    match base.find(id) {
+        Some(place) => base.arena().lits(place) == lits,
+        None => false,
+    }
 }

@@ -75,8 +75,31 @@ fn compare_levels(
     Ok(())
 }
 
-/// Compares with all the clauses; without the one at the index, if it can be removed; the same after
-/// the clauses were moved; and with all again.
+/// Compares without the clause of an id, which was the last one, before and after the clauses were
+/// moved, and then with it again.
+fn compare_moved(
+    base: &mut Base,
+    alloc: Global,
+    clauses: &[Clause],
+    id: u64,
+    first: Lit,
+    second: Lit,
+) -> Result<(), Fail>
+    requires { base.old.trail.vars ≡ 6 }
+{
+    let [left @ .., last] = clauses else {
+        return Ok(());
+    };
+    compare_levels(base, alloc, left, second, first)?;
+    base.backtrack(0);
+    base.compact()?;
+    compare_levels(base, alloc, left, first, second)?;
+    base.backtrack(0);
+    add(base, alloc, id, last)?;
+    compare_levels(base, alloc, clauses, second, first)
+}
+
+/// Compares with all the clauses, and then with the one at an index removed, if it can be.
 fn compare_calls(
     alloc: Global,
     formula: &str,
@@ -87,22 +110,13 @@ fn compare_calls(
     let mut clauses = clauses_of(alloc, formula)?;
     let mut base = base_of(alloc, clauses.as_slice())?;
     compare_levels(&mut base, alloc, clauses.as_slice(), first, second)?;
-    if index >= clauses.len() {
-        return Ok(());
-    }
     let id = (index as u64).saturating_add(1);
-    if !remove(&mut base, id) {
+    if index >= clauses.len() || !remove(&mut base, id) {
         return Ok(());
     }
-    let left = clauses.remove(index);
-    compare_levels(&mut base, alloc, clauses.as_slice(), second, first)?;
-    base.backtrack(0);
-    base.compact()?;
-    compare_levels(&mut base, alloc, clauses.as_slice(), first, second)?;
-    base.backtrack(0);
-    add(&mut base, alloc, id, &left)?;
-    clauses.push(left)?;
-    compare_levels(&mut base, alloc, clauses.as_slice(), second, first)
+    let last = clauses.len() - 1;
+    clauses.swap(index, last);
+    compare_moved(&mut base, alloc, clauses.as_slice(), id, first, second)
 }
 
 #[test]

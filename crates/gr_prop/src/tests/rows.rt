@@ -1,53 +1,76 @@
 // Small bases against worked rows.
-use crate::Propagated;
-use crate::tests::calls::{base_of, clauses_of, decide, forced_by, lit, lits_of, settle};
+ghost use Rattle.std.specs.Prelude.{◌≡◌};
+
+use crate::tests::calls::{base_of, clauses_of, decide, forced_by, has_lits, lit, settle};
+use crate::{Base, Propagated};
+use gr_logic::{Lit, Place};
 use std::test::Fail;
+
+/// Decides -1 and -3, with propagation before and behind each: the place of the conflict, where there
+/// is one at the second level, and the trail was -1 and -2 at the first.
+fn second_level(base: &mut Base) -> Result<Option<Place>, Fail>
+    requires { base.old.trail.vars ≡ 6 }
+{
+    let Propagated::Quiet = base.propagate()? else {
+        return Ok(None);
+    };
+    decide(base, lit(-1)?);
+    let Propagated::Quiet = base.propagate()? else {
+        return Ok(None);
+    };
+    if base.trail().lits() != [lit(-1)?, lit(-2)?].as_slice() {
+        return Ok(None);
+    }
+    decide(base, lit(-3)?);
+    match base.propagate()? {
+        Propagated::Quiet => Ok(None),
+        Propagated::Conflict { place } => Ok(Some(place)),
+    }
+}
 
 #[test]
 fn ends_in_a_conflict(rt: HostRuntime) -> Result<(), Fail> {
-    let alloc = rt.alloc();
-    let clauses = clauses_of(alloc, "1 -2 0 1 2 3 4 0 1 2 3 -4 0")?;
-    let mut base = base_of(alloc, clauses.as_slice())?;
-    let Propagated::Quiet = base.propagate()? else {
-        return Err(Fail::from("a conflict at level zero"));
-    };
-    decide(&mut base, lit(-1)?);
-    let Propagated::Quiet = base.propagate()? else {
-        return Err(Fail::from("a conflict at level one"));
-    };
-    assert_eq!(rt; base.trail().lits(), [lit(-1)?, lit(-2)?].as_slice());
-    decide(&mut base, lit(-3)?);
-    let Propagated::Conflict { place } = base.propagate()? else {
-        return Err(Fail::from("no conflict at level two"));
-    };
+    let clauses = clauses_of(rt.alloc(), "1 -2 0 1 2 3 4 0 1 2 3 -4 0")?;
+    let mut base = base_of(rt.alloc(), clauses.as_slice())?;
+    let place = second_level(&mut base)?.ok_or("no conflict")?;
     assert!(rt; base.find(2) == Some(place) || base.find(3) == Some(place));
     Ok(())
 }
 
+/// Whether the clauses are `1`, `-1 2` and `2` with the ids 1, 2 and 3, and the last is the reason of 2.
+fn is_settled(base: &Base, one: Lit, two: Lit) -> Result<bool, Fail> {
+    let reason = base.find(3).ok_or("no clause has the id")?;
+    Ok(
+        forced_by(base.trail(), reason) == Some(two)
+            && base.ids()?.all() == [1, 2, 3].as_slice()
+            && has_lits(base, 1, &[one])
+            && (has_lits(base, 2, &[one.negate(), two]) || has_lits(base, 2, &[two, one.negate()]))
+            && has_lits(base, 3, &[two]),
+    )
+}
+
+/// Propagates, settles 2 and moves the clauses: whether each does what it should.
+fn settles_and_moves(base: &mut Base, one: Lit, two: Lit) -> Result<bool, Fail>
+    requires { base.old.trail.vars ≡ 6 }
+{
+    let Propagated::Quiet = base.propagate()? else {
+        return Ok(false);
+    };
+    if base.trail().lits() != [one, two].as_slice() {
+        return Ok(false);
+    }
+    settle(base, two, 3)?;
+    if !is_settled(base, one, two)? {
+        return Ok(false);
+    }
+    base.compact()?;
+    is_settled(base, one, two)
+}
+
 #[test]
 fn settles_a_literal_and_moves_the_clauses(rt: HostRuntime) -> Result<(), Fail> {
-    let alloc = rt.alloc();
-    let (one, two) = (lit(1)?, lit(2)?);
-    let mut base = base_of(alloc, clauses_of(alloc, "1 0 -1 2 0")?.as_slice())?;
-    assert_eq!(rt; base.propagate()?, Propagated::Quiet);
-    assert_eq!(rt; base.trail().lits(), [one, two].as_slice());
-    let reason = settle(&mut base, two, 3)?;
-    assert_eq!(rt; forced_by(base.trail(), reason), Some(two));
-    assert_eq!(rt; base.ids()?.all(), [1, 2, 3].as_slice());
-    base.compact()?;
-    let reason = base.find(3).ok_or("the clause is gone")?;
-    assert_eq!(rt;
-        forced_by(base.trail(), reason),
-        Some(two),
-        "at its new place"
-    );
-    assert_eq!(rt;
-        base.ids()?.all(),
-        [1, 2, 3].as_slice(),
-        "at their new places"
-    );
-    assert_eq!(rt; lits_of(&base, 1).unwrap_or_default(), [one].as_slice());
-    assert_eq!(rt; lits_of(&base, 2).unwrap_or_default().len(), 2);
-    assert_eq!(rt; lits_of(&base, 3).unwrap_or_default(), [two].as_slice());
+    let clauses = clauses_of(rt.alloc(), "1 0 -1 2 0")?;
+    let mut base = base_of(rt.alloc(), clauses.as_slice())?;
+    assert!(rt; settles_and_moves(&mut base, lit(1)?, lit(2)?)?);
     Ok(())
 }

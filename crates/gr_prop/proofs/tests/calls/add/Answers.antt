@@ -5,5 +5,5 @@ use Rattle.gr_prop.proofs.tests.calls.add.Goals as goal
 
 pub add-requires-clause-normal : goal.add-requires-clause-normal
 add-requires-clause-normal c =
-    let h = rw c.in-Clause.is at c.in_ok-clause-2.ensures in
+    let h = rw c.in-Clause.is at c.in_ok-clause.ensures in
     subst IsNormal (sym h.1) (normal-forms _ h.0).0
