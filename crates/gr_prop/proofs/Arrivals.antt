@@ -3,6 +3,7 @@ use Rattle.std.proofs.Common.{◌≡◌, ◌≢◌, ◌⊎◌, ℕ, ◌+◌, ◌
 use Rattle.std.proofs.lemmas.Bool.Decides.{nat_tests}
 use Rattle.std.proofs.lemmas.List.Elements.{All-head, All-tail}
 use Rattle.std.specs.Option.{option_map, unwrap_or}
+use Rattle.std.specs.Ordering.{nat_cmp}
 use Rattle.std.specs.FinMap as finite
 use Rattle.std.specs.FinSet as set
 use Rattle.gr_logic.specs.Literals.{Literal, negation, same_literal}
@@ -25,7 +26,8 @@ use Rattle.gr_prop.proofs.TrailSets.{open-false, false-value}
 use Rattle.gr_prop.proofs.Stores.{by_place, get-insert-same, get-insert-other, get-remove-same, get-remove-other, same-map, lits-insert, get-clauses_in}
 use Rattle.gr_prop.proofs.Facts.{normal-distinct}
 use Rattle.gr_prop.proofs.Keeping.{kept-open}
-use Rattle.gr_prop.proofs.Adding.{ready-rests, ready-broken, ready-forced, clause-known, clause-distinct, clause-members, clauses-added, forces-forced, forced-only, rests-forces, stands-false}
+use Rattle.gr_prop.proofs.Adding.{ready-rests, ready-broken, ready-forced, clause-known, clause-distinct, clause-members, clauses-added}
+use Rattle.gr_prop.proofs.Forcing.{forces-forced, forced-only, rests-forces, stands-false}
 
 -- ---- ids
 module _ (k : Clauses) (places : finite.FinMap _ Place) (place : Place) (b : BaseClause) (indexed : IsIndexed k places)
@@ -140,55 +142,61 @@ taken-back k m n place s fresh is r = same-map _ _ (by_place (λ q. finite.get (
     (λ q apart. get-remove-other n place.0 q apart ∙ r.others q apart ∙ ap (λ x. finite.get x q) is ∙
     get-insert-other k place.0 s q apart))
 
-module _ (k n : Store) (t : TrailState) (ws vs : WatchLists) (places spots : finite.FinMap _ Place) (head : ℕ)
-    (broken : List Place) (quiet : Bool) (conflict : Option Place)
-    (place : Place) (s : Stored) (kept : IsKeptBase k t ws places head broken quiet conflict)
-    (a : IsArrived k n t place s)
-    (unused : LacksId (clauses_in k) s.id) (lists : vs ≡ watching_too ws place (lits_at n place.0))
-    (index : spots ≡ finite.insert places s.id place) where
+-- a clause comes to a base, with its watches and its id
+pub record IsComing (k n : Store) (t : TrailState) (ws vs : WatchLists) (places spots : finite.FinMap nat_cmp Place)
+    (head : ℕ) (broken : List Place) (quiet : Bool) (conflict : Option Place) (place : Place) (s : Stored) : Type 0
+  where
+    pub kept : IsKeptBase k t ws places head broken quiet conflict
+    pub come : IsArrived k n t place s
+    pub unused : LacksId (clauses_in k) s.id
+    pub lists : vs ≡ watching_too ws place (lits_at n place.0)
+    pub index : spots ≡ finite.insert places s.id place
+
+module _ {k n : Store} {t : TrailState} {ws vs : WatchLists} {places spots : finite.FinMap nat_cmp Place} {head : ℕ}
+    {broken : List Place} {quiet : Bool} {conflict : Option Place} {place : Place} {s : Stored}
+    (c : IsComing k n t ws vs places spots head broken quiet conflict place s) where
   clauses-now : clauses_in n ≡ finite.insert (clauses_in k) place.0 (base_clause s)
-  clauses-now = clauses-added k n t ws head broken place s kept.ready a.fresh a.reordered a.distinct a.known
+  clauses-now = clauses-added k n t ws head broken place s c.kept.ready c.come.fresh c.come.reordered c.come.distinct c.come.known
 
   fresh-clause : finite.get (clauses_in k) place.0 ≡ None
-  fresh-clause = get-clauses_in k place.0 ∙ ap (option_map base_clause) a.fresh
+  fresh-clause = get-clauses_in k place.0 ∙ ap (option_map base_clause) c.come.fresh
 
   indexed-now : IsIndexed (clauses_in n) spots
   indexed-now = subst (λ x. IsIndexed x spots) (sym clauses-now)
-      (subst (IsIndexed (finite.insert (clauses_in k) place.0 (base_clause s))) (sym index)
-      (indexed-insert (clauses_in k) places place (base_clause s) kept.indexed fresh-clause unused))
+      (subst (IsIndexed (finite.insert (clauses_in k) place.0 (base_clause s))) (sym c.index)
+      (indexed-insert (clauses_in k) places place (base_clause s) c.kept.indexed fresh-clause c.unused))
 
   pub kept-rests : StandsAs t.assigned (lits_at n place.0) Rests → IsKeptBase n t vs spots head broken false None
   kept-rests stands = kept-open n t vs spots head broken false None
-      (subst (λ w. IsReady n t w head broken) (sym lists) (ready-rests k n t ws head broken place s kept.ready
-      a.fresh a.reordered a.distinct a.known a.at stands))
+      (subst (λ w. IsReady n t w head broken) (sym c.lists) (ready-rests k n t ws head broken place s c.kept.ready c.come.fresh c.come.reordered c.come.distinct c.come.known c.come.at stands))
       indexed-now refl refl
 
   pub kept-broken : (broken' : List Place) → broken' ≡ broken ++ place ∷ [] → AllFalse t.assigned (lits_at n place.0)
       → IsKeptBase n t vs spots head broken' false None
   kept-broken broken' is falses = kept-open n t vs spots head broken' false None
       (subst (IsReady n t vs head) (sym is)
-      (subst (λ w. IsReady n t w head (broken ++ place ∷ [])) (sym lists)
-      (ready-broken k n t ws head broken place s kept.ready a.fresh a.reordered a.distinct a.known a.at falses)))
+      (subst (λ w. IsReady n t w head (broken ++ place ∷ [])) (sym c.lists)
+      (ready-broken k n t ws head broken place s c.kept.ready c.come.fresh c.come.reordered c.come.distinct c.come.known c.come.at falses)))
       indexed-now refl refl
 
   pub kept-forced : (u : TrailState) (l : Literal) → u ≡ with_forced t l place → StandsAs t.assigned
       (lits_at n place.0) (Forced l) → IsKeptBase n u vs spots head broken false None
   kept-forced u l is stands = kept-open n u vs spots head broken false None
       (subst (λ x. IsReady n x vs head broken) (sym is)
-      (subst (λ w. IsReady n (with_forced t l place) w head broken) (sym lists)
-      (ready-forced k n t ws head broken place s kept.ready a.fresh a.reordered a.distinct a.known a.at l stands)))
+      (subst (λ w. IsReady n (with_forced t l place) w head broken) (sym c.lists)
+      (ready-forced k n t ws head broken place s c.kept.ready c.come.fresh c.come.reordered c.come.distinct c.come.known c.come.at l stands)))
       indexed-now refl refl
 
   -- what the clause forces, by its literals in either order
   forces-order : (l : Literal) → Forces (true_in t.assigned) (members s.lits) l → Forces (true_in t.assigned)
       (members (lits_at n place.0)) l
-  forces-order l f = subst (λ c. Forces (true_in t.assigned) c l)
-      (λ i q. sym (clause-members k n t ws head broken place s kept.ready a.fresh a.reordered a.distinct a.known q) i) f
+  forces-order l f = subst (λ e. Forces (true_in t.assigned) e l)
+      (λ i q. sym (clause-members k n t ws head broken place s c.kept.ready c.come.fresh c.come.reordered c.come.distinct c.come.known q) i) f
 
   forces-back : (l : Literal) → Forces (true_in t.assigned) (members (lits_at n place.0)) l → Forces
       (true_in t.assigned) (members s.lits) l
-  forces-back l f = subst (λ c. Forces (true_in t.assigned) c l)
-      (λ i q. clause-members k n t ws head broken place s kept.ready a.fresh a.reordered a.distinct a.known q i) f
+  forces-back l f = subst (λ e. Forces (true_in t.assigned) e l)
+      (λ i q. clause-members k n t ws head broken place s c.kept.ready c.come.fresh c.come.reordered c.come.distinct c.come.known q i) f
 
   abbrev was : BaseState
   was = record { clauses = clauses_in k; trail = t; quiet = quiet; conflict = conflict }
@@ -208,8 +216,8 @@ module _ (k n : Store) (t : TrailState) (ws vs : WatchLists) (places spots : fin
   pub added-rests : StandsAs t.assigned (lits_at n place.0) Rests → IsAdded was
       (record { clauses = clauses_in n; trail = t; quiet = false; conflict = None }) s.id s.lbd s.lits place
   added-rests stands = still-added (λ l f e. rests-forces t (lits_at n place.0) l
-      (clause-distinct k n t ws head broken place s kept.ready a.fresh a.reordered a.distinct a.known)
-      kept.ready.sound.consistent stands f e)
+      (clause-distinct k n t ws head broken place s c.kept.ready c.come.fresh c.come.reordered c.come.distinct c.come.known)
+      c.kept.ready.sound.consistent stands f e)
 
   pub added-broken : AllFalse t.assigned (lits_at n place.0) → IsAdded was
       (record { clauses = clauses_in n; trail = t; quiet = false; conflict = None }) s.id s.lbd s.lits place

@@ -15,11 +15,13 @@ mod Finding
 mod IdEntries
 mod Deciding
 mod Arranging
+mod Forcing
 mod Adding
 mod Arrivals
 mod Removing
 mod Settling
 mod IdOrder
 mod Mapped
+mod MovedClauses
 mod Compacted
 mod MovedLists

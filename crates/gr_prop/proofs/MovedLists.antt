@@ -11,12 +11,13 @@ use Rattle.std.specs.FinMap as finite
 use Rattle.gr_logic.specs.Literals.{Literal, var_of}
 use Rattle.gr_logic.specs.Codes.{code_of}
 use Rattle.gr_logic.specs.declared.places.Place.{Place}
-use Rattle.gr_trail.specs.Trails.{Assigned, TrailState, assigned_to, reason_at, with_reason}
+use Rattle.gr_trail.specs.Trails.{Assigned, TrailState, assigned_to, lits_of, reason_at, with_reason}
 use Rattle.gr_watch.specs.declared.lists.Watch.{Watch}
 use Rattle.gr_watch.specs.WatchLists.{WatchLists, list_of}
 use Rattle.gr_prop.specs.BaseChanges.{moved_place, moved_assigned}
 use Rattle.gr_prop.specs.Compactions.{moved_watch, HasMovedReason}
 use Rattle.gr_prop.proofs.Stores.{by_place, get-insert-same, get-insert-other}
+use Rattle.gr_prop.proofs.Rounds.{lit-at}
 
 -- a place as the moves tell it
 pub place-moved : (moves : finite.FinMap nat_cmp ℕ) (p q : Place) → finite.get moves p.0 ≡ Some q.0 → q ≡ moved_place
@@ -70,6 +71,33 @@ found-at (y ∷ ys) (suc i) x apart low at =
     let no' : nat_eq (var_of y.lit) (var_of x.lit) ≡ false = grind (arith, nat_tests) in
     ap (λ b. cond b (Some y) (find (λ a. nat_eq (var_of a.lit) (var_of x.lit)) ys)) no'
     ∙ found-at ys i x (tail-pairs y ys apart) (omega arith) at
+
+-- what was assigned at an index, whose variable is this one
+pub record AssignedAt (xs : List Assigned) (i var : ℕ) : Type 0 where
+  pub item : Assigned
+  pub at : item ≡ get_or xs i item
+  pub low : i < length xs
+  pub var' : var ≡ var_of item.lit
+  pub found : assigned_to xs var ≡ Some item
+
+pub assigned-at : (xs : List Assigned) (i : ℕ) (l : Literal) (var : ℕ) → Apart xs → i < length (lits_of xs)
+    → l ≡ get_or (lits_of xs) i l → var ≡ var_of l → AssignedAt xs i var
+assigned-at xs i l var apart low at is =
+    let x = lit-at xs i l low at in
+    let same : var ≡ var_of x.0.lit = is ∙ ap var_of (sym x.1.1.0) in
+    record {
+      item = x.0;
+      at = x.1.0;
+      low = x.1.1.1;
+      var' = same;
+      found = ap (assigned_to xs) same ∙ found-at xs i x.0 apart x.1.1.1 x.1.0;
+    }
+
+-- its reason, as the trail tells it
+pub reason-is : (x : Assigned) (o : Option Assigned) (r : Option Place) → o ≡ Some x → option_map
+    (λ (a : Assigned). a.reason) o ≡ Some r → x.reason ≡ r
+reason-is x o r e told = ap (λ (q : Option (Option Place)). unwrap_or {T = Option Place} q x.reason)
+    (sym (ap (option_map (λ (a : Assigned). a.reason)) e) ∙ told)
 
 none-reason : (ys : List Assigned) (v : ℕ) (p : Place) → ((k : ℕ) (d : Assigned) → k < length ys → var_of
     (get_or ys k d).lit ≢ v) → with_reason ys v p ≡ ys

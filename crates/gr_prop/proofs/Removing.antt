@@ -26,7 +26,7 @@ use Rattle.gr_prop.proofs.TrailSets.{or-second}
 use Rattle.gr_prop.proofs.Closed.{HaveNoReason, founded-with}
 use Rattle.gr_prop.proofs.Stores.{by_place, get-remove-same, get-remove-other, lits-remove, lits-remove-other, clauses-remove, family-at, get-clauses_in, some-is}
 use Rattle.gr_prop.proofs.Counts.{code-low, count-here, list-same, list-other, by_list, not-same, flip-same}
-use Rattle.gr_prop.proofs.Adding.{none-apart}
+use Rattle.gr_prop.proofs.Forcing.{none-apart}
 
 -- ---- the first watch of a place
 count-any : (place : Place) (list : List Watch) → 1 ≤ count_in place.0 list → list_any (is_at place) list ≡ true

@@ -6,6 +6,7 @@ use Rattle.gr_logic.specs.NormalForms.{IsNormal}
 use Rattle.gr_arena.specs.Arenas.{Stored}
 use Rattle.gr_prop.specs.Bases.{BaseState, clauses_in, LacksId}
 use Rattle.gr_prop.specs.BaseChanges.{IsAddable, IsAdded}
+use Rattle.gr_trail.specs.Trails.{TrailState}
 use Rattle.gr_prop.specs.Watching.{Store, lits_at, IsKeptBase, IsReady, IsIndexed}
 use Rattle.gr_prop.specs.Additions.{StandsAs, IsArranged, watching_too}
 use Rattle.gr_prop.specs.declared.additions.Standing.{Standing}
@@ -13,9 +14,81 @@ use Rattle.gr_prop.specs.declared.additions.Standing.TheVariants.{Broken, Forced
 use Rattle.gr_prop.proofs.Stores.{get-insert-same, lits-insert, remove-insert}
 use Rattle.gr_prop.proofs.Finding.{unused-none}
 use Rattle.gr_prop.proofs.Keeping.{kept-open}
-use Rattle.gr_prop.proofs.Adding.{clause-known, forced-known}
-use Rattle.gr_prop.proofs.Arrivals.{IsArrived, arrived, taken-back, kept-same, stands-at, kept-rests, kept-broken, kept-forced, added-rests, added-broken, added-forced}
+use Rattle.gr_prop.proofs.Adding.{clause-known}
+use Rattle.gr_prop.proofs.Forcing.{forced-known}
+use Rattle.gr_prop.proofs.Arrivals.{IsArrived, IsComing, arrived, taken-back, kept-same, stands-at, kept-rests, kept-broken, kept-forced, added-rests, added-broken, added-forced}
+use Rattle.gr_prop.proofs.bases.Base.add.Goals.{After-arrange, After-assess}
 use Rattle.gr_prop.proofs.bases.Base.add.Goals as goal
+
+-- what is known of the clause once its literals are arranged
+come : (c : After-arrange) → IsArrived c.self.inside.arena.clauses c.arrange.new.arena.clauses c.self.inside.trail
+    c.in_ok-place.place (record { id = c.args.id; lbd = c.args.lbd; lits = c.lits-2.result.now })
+come c =
+    let s = c.self.inside in
+    arrived s.arena.clauses c.add.new.self.clauses c.arrange.new.arena.clauses s.trail c.in_ok-place.place _
+    c.in_ok-place.ensures.fresh c.in_ok-place.ensures.clauses
+    c.arrange.ensures.reordered c.arrange.ensures.arranged c.arrange.ensures.still
+    (subst IsNormal (sym c.lits-2.ensures) c.requires.normal)
+    (subst (All (λ (l : Literal). l.index < s.trail.vars)) (sym c.lits-2.ensures)
+    (subst (λ (b : BaseState). All (λ (l : Literal). l.index < b.trail.vars) c.args.clause.now) (sym c.self.view_is)
+    c.requires.known))
+    (subst (IsAddable s.trail) (sym c.lits-2.ensures)
+    (subst (λ (b : BaseState). IsAddable b.trail c.args.clause.now) (sym c.self.view_is) c.requires.addable))
+
+-- its literals are known
+known : (c : After-arrange) → All (λ (l : Literal). l.index < c.self.inside.trail.vars)
+    (lits_at c.arrange.new.arena.clauses c.in_ok-place.place.0)
+known c =
+    let s = c.self.inside in
+    let a = come c in
+    clause-known s.arena.clauses c.arrange.new.arena.clauses s.trail s.watches s.head s.broken.items
+    c.in_ok-place.place _ c.self.invariant.ready a.fresh a.reordered a.distinct a.known
+
+-- no clause of the base has its id
+lacks : (c : After-arrange) → LacksId (clauses_in c.self.inside.arena.clauses) c.args.id
+lacks c = subst (λ (b : BaseState). LacksId b.clauses c.args.id) (sym c.self.view_is) c.requires.unused
+
+-- it has its watches and its id
+coming : (c : After-assess) → IsArrived c.self.inside.arena.clauses c.arrange.new.arena.clauses c.self.inside.trail
+    c.in_ok-place.place (record { id = c.args.id; lbd = c.args.lbd; lits = c.lits-2.result.now })
+    → LacksId (clauses_in c.self.inside.arena.clauses) c.args.id
+    → IsComing c.self.inside.arena.clauses c.arrange.new.arena.clauses c.self.inside.trail c.self.inside.watches
+    c.watch.new.watches c.self.inside.places c.insert.new.self c.self.inside.head c.self.inside.broken.items
+    c.self.inside.quiet c.self.inside.conflict c.in_ok-place.place
+    (record { id = c.args.id; lbd = c.args.lbd; lits = c.lits-2.result.now })
+coming c come unused = record {
+  kept = c.self.invariant;
+  come = come;
+  unused = unused;
+  lists = c.in_default-watch.ensures.ok ∙ ap (watching_too c.self.inside.watches c.in_ok-place.place) c.lits-3.ensures;
+  index = c.in_default.ensures.ok;
+}
+
+-- how it stands
+stands : (c : After-assess) (x : Standing) → c.assess.result ≡ x → StandsAs c.self.inside.trail.assigned
+    (lits_at c.arrange.new.arena.clauses c.in_ok-place.place.0) x
+stands c x is = stands-at c.self.inside.trail.assigned (lits_at c.arrange.new.arena.clauses c.in_ok-place.place.0)
+    c.lits-4.result.now c.assess.result x c.lits-4.ensures is c.assess.ensures
+
+-- the base before and afterwards, as its view tells them
+abbrev was : After-assess → BaseState
+was c = record {
+  clauses = clauses_in c.self.inside.arena.clauses;
+  trail = c.self.inside.trail;
+  quiet = c.self.inside.quiet;
+  conflict = c.self.inside.conflict;
+}
+
+abbrev becomes : After-assess → TrailState → BaseState
+becomes c t = record { clauses = clauses_in c.arrange.new.arena.clauses; trail = t; quiet = false; conflict = None }
+
+as-added : (c : After-assess) (t : TrailState) → IsAdded (was c) (becomes c t) c.args.id c.args.lbd
+    c.lits-2.result.now c.in_ok-place.place
+    → IsAdded c.args.self.now (becomes c t) c.args.id c.args.lbd c.args.clause.now c.in_ok-place.place
+as-added c t added =
+    subst (λ (b : BaseState). IsAdded b (becomes c t) c.args.id c.args.lbd c.args.clause.now c.in_ok-place.place)
+    c.self.view_is
+    (subst (λ ls. IsAdded (was c) (becomes c t) c.args.id c.args.lbd ls c.in_ok-place.place) c.lits-2.ensures added)
 
 pub arrange-requires-clause-there : goal.arrange-requires-clause-there
 arrange-requires-clause-there c =
@@ -43,305 +116,86 @@ invariant_of-self-in-Err c =
     refl c.in-Err.ensures.err c.reserve.ensures.items c.self.invariant
 
 pub watch-requires : goal.watch-requires
-watch-requires c =
-    let s = c.self.inside in
-    let p = c.in_ok-place.place in
-    let cl : Stored = record { id = c.args.id; lbd = c.args.lbd; lits = c.lits-2.result.now } in
-    let a : IsArrived s.arena.clauses c.arrange.new.arena.clauses s.trail p cl =
-    arrived s.arena.clauses c.add.new.self.clauses c.arrange.new.arena.clauses s.trail p cl
-    c.in_ok-place.ensures.fresh c.in_ok-place.ensures.clauses
-    c.arrange.ensures.reordered c.arrange.ensures.arranged c.arrange.ensures.still
-    (subst IsNormal (sym c.lits-2.ensures) c.requires.normal)
-    (subst (All (λ (l : Literal). l.index < s.trail.vars)) (sym c.lits-2.ensures)
-    (subst (λ (b : BaseState). All (λ (l : Literal). l.index < b.trail.vars) c.args.clause.now) (sym c.self.view_is)
-    c.requires.known))
-    (subst (IsAddable s.trail) (sym c.lits-2.ensures)
-    (subst (λ (b : BaseState). IsAddable b.trail c.args.clause.now) (sym c.self.view_is) c.requires.addable)) in
-    record {
-      known = subst (λ n. All (λ (l : Literal). l.index < n) c.lits-3.result.now) (sym c.self.invariant.ready.vars)
-          (subst (All (λ (l : Literal). l.index < s.trail.vars)) (sym c.lits-3.ensures)
-          (clause-known s.arena.clauses c.arrange.new.arena.clauses s.trail s.watches s.head s.broken.items p cl
-          c.self.invariant.ready a.fresh a.reordered a.distinct a.known));
-    }
+watch-requires c = record {
+  known = subst (λ n. All (λ (l : Literal). l.index < n) c.lits-3.result.now) (sym c.self.invariant.ready.vars)
+      (subst (All (λ (l : Literal). l.index < c.self.inside.trail.vars)) (sym c.lits-3.ensures)
+      (known (goal.at.watch-requires c).After-arrange));
+}
 
 pub invariant_of-self-in-Err-watch : goal.invariant_of-self-in-Err-watch
 invariant_of-self-in-Err-watch c =
     let s = c.self.inside in
     let p = c.in_ok-place.place in
-    let cl : Stored = record { id = c.args.id; lbd = c.args.lbd; lits = c.lits-2.result.now } in
-    let lacks : LacksId (clauses_in s.arena.clauses) c.args.id =
-    subst (λ (b : BaseState). LacksId b.clauses c.args.id) (sym c.self.view_is) c.requires.unused in
+    let g = (goal.at.invariant_of-self-in-Err-watch c).After-arrange in
     kept-same s.arena.clauses c.remove-in-Err-watch-2.new.self.clauses s.trail s.watches c.watch.new.watches s.places
     c.remove-in-Err-watch.new.self s.head s.broken.items c.reserve.new.self.items s.quiet s.conflict
     (ap (λ x. x.clauses) c.remove-in-Err-watch-2.ensures ∙ taken-back s.arena.clauses c.add.new.self.clauses
-    c.arrange.new.arena.clauses p cl c.in_ok-place.ensures.fresh c.in_ok-place.ensures.clauses
+    c.arrange.new.arena.clauses p _ c.in_ok-place.ensures.fresh c.in_ok-place.ensures.clauses
     c.arrange.ensures.reordered)
     c.in-Err-watch.ensures.err
     (c.remove-in-Err-watch.ensures ∙ ap (λ m. finite.remove m c.args.id) c.in_default.ensures.ok ∙ remove-insert
     s.places c.args.id p (unused-none (clauses_in s.arena.clauses) s.places c.args.id c.self.invariant.indexed
-    lacks))
+    (lacks g)))
     c.reserve.ensures.items c.self.invariant
 
 pub assess-requires-clause-arranged : goal.assess-requires-clause-arranged
-assess-requires-clause-arranged c =
-    let s = c.self.inside in
-    let p = c.in_ok-place.place in
-    let cl : Stored = record { id = c.args.id; lbd = c.args.lbd; lits = c.lits-2.result.now } in
-    let a : IsArrived s.arena.clauses c.arrange.new.arena.clauses s.trail p cl =
-    arrived s.arena.clauses c.add.new.self.clauses c.arrange.new.arena.clauses s.trail p cl
-    c.in_ok-place.ensures.fresh c.in_ok-place.ensures.clauses
-    c.arrange.ensures.reordered c.arrange.ensures.arranged c.arrange.ensures.still
-    (subst IsNormal (sym c.lits-2.ensures) c.requires.normal)
-    (subst (All (λ (l : Literal). l.index < s.trail.vars)) (sym c.lits-2.ensures)
-    (subst (λ (b : BaseState). All (λ (l : Literal). l.index < b.trail.vars) c.args.clause.now) (sym c.self.view_is)
-    c.requires.known))
-    (subst (IsAddable s.trail) (sym c.lits-2.ensures)
-    (subst (λ (b : BaseState). IsAddable b.trail c.args.clause.now) (sym c.self.view_is) c.requires.addable)) in
-    subst (IsArranged s.trail.assigned) (sym c.lits-4.ensures) a.arranged
+assess-requires-clause-arranged c = subst (IsArranged c.self.inside.trail.assigned) (sym c.lits-4.ensures)
+    (come (goal.at.assess-requires-clause-arranged c).After-arrange).arranged
 
 pub assess-requires-clause-known : goal.assess-requires-clause-known
-assess-requires-clause-known c =
-    let s = c.self.inside in
-    let p = c.in_ok-place.place in
-    let cl : Stored = record { id = c.args.id; lbd = c.args.lbd; lits = c.lits-2.result.now } in
-    let a : IsArrived s.arena.clauses c.arrange.new.arena.clauses s.trail p cl =
-    arrived s.arena.clauses c.add.new.self.clauses c.arrange.new.arena.clauses s.trail p cl
-    c.in_ok-place.ensures.fresh c.in_ok-place.ensures.clauses
-    c.arrange.ensures.reordered c.arrange.ensures.arranged c.arrange.ensures.still
-    (subst IsNormal (sym c.lits-2.ensures) c.requires.normal)
-    (subst (All (λ (l : Literal). l.index < s.trail.vars)) (sym c.lits-2.ensures)
-    (subst (λ (b : BaseState). All (λ (l : Literal). l.index < b.trail.vars) c.args.clause.now) (sym c.self.view_is)
-    c.requires.known))
-    (subst (IsAddable s.trail) (sym c.lits-2.ensures)
-    (subst (λ (b : BaseState). IsAddable b.trail c.args.clause.now) (sym c.self.view_is) c.requires.addable)) in
-    subst (All (λ (l : Literal). l.index < s.trail.vars)) (sym c.lits-4.ensures)
-    (clause-known s.arena.clauses c.arrange.new.arena.clauses s.trail s.watches s.head s.broken.items p cl
-    c.self.invariant.ready a.fresh a.reordered a.distinct a.known)
+assess-requires-clause-known c = subst (All (λ (l : Literal). l.index < c.self.inside.trail.vars))
+    (sym c.lits-4.ensures) (known (goal.at.assess-requires-clause-known c).After-arrange)
 
 pub invariant_of-self-in-Broken : goal.invariant_of-self-in-Broken
 invariant_of-self-in-Broken c =
-    let s = c.self.inside in
-    let p = c.in_ok-place.place in
-    let cl : Stored = record { id = c.args.id; lbd = c.args.lbd; lits = c.lits-2.result.now } in
-    let a : IsArrived s.arena.clauses c.arrange.new.arena.clauses s.trail p cl =
-    arrived s.arena.clauses c.add.new.self.clauses c.arrange.new.arena.clauses s.trail p cl
-    c.in_ok-place.ensures.fresh c.in_ok-place.ensures.clauses
-    c.arrange.ensures.reordered c.arrange.ensures.arranged c.arrange.ensures.still
-    (subst IsNormal (sym c.lits-2.ensures) c.requires.normal)
-    (subst (All (λ (l : Literal). l.index < s.trail.vars)) (sym c.lits-2.ensures)
-    (subst (λ (b : BaseState). All (λ (l : Literal). l.index < b.trail.vars) c.args.clause.now) (sym c.self.view_is)
-    c.requires.known))
-    (subst (IsAddable s.trail) (sym c.lits-2.ensures)
-    (subst (λ (b : BaseState). IsAddable b.trail c.args.clause.now) (sym c.self.view_is) c.requires.addable)) in
-    let lacks : LacksId (clauses_in s.arena.clauses) c.args.id =
-    subst (λ (b : BaseState). LacksId b.clauses c.args.id) (sym c.self.view_is) c.requires.unused in
-    let lists = c.in_default-watch.ensures.ok ∙ ap (watching_too s.watches p) c.lits-3.ensures in
-    let falses = stands-at s.trail.assigned (lits_at c.arrange.new.arena.clauses p.0) c.lits-4.result.now
-    c.assess.result Broken c.lits-4.ensures c.in-Broken.is c.assess.ensures in
+    let g = (goal.at.invariant_of-self-in-Broken c).After-assess in
+    let a = (goal.at.invariant_of-self-in-Broken c).After-arrange in
     let ok : is_ok c.push.result ≡ true = c.push.ensures.succeeds (omega (arith, c.in_ok-reserve.ensures.ok)) in
-    kept-broken s.arena.clauses c.arrange.new.arena.clauses s.trail s.watches c.watch.new.watches s.places
-    c.insert.new.self s.head s.broken.items s.quiet s.conflict p cl c.self.invariant a lacks lists
-    c.in_default.ensures.ok c.push.new.self.items
-    (c.push.ensures.items ∙ ap (λ b. if b then c.reserve.new.self.items ++ p ∷ [] else c.reserve.new.self.items) ok ∙
-    ap (λ xs. xs ++ p ∷ []) c.reserve.ensures.items) falses
+    kept-broken (coming g (come a) (lacks a)) c.push.new.self.items
+    (c.push.ensures.items ∙ ap (λ b. if b then c.reserve.new.self.items ++ c.in_ok-place.place ∷ [] else
+    c.reserve.new.self.items) ok ∙ ap (λ xs. xs ++ c.in_ok-place.place ∷ []) c.reserve.ensures.items)
+    (stands g Broken c.in-Broken.is)
 
 pub assign-requires-clause-within : goal.assign-requires-clause-within
 assign-requires-clause-within c =
-    let s = c.self.inside in
-    let p = c.in_ok-place.place in
-    let cl : Stored = record { id = c.args.id; lbd = c.args.lbd; lits = c.lits-2.result.now } in
-    let a : IsArrived s.arena.clauses c.arrange.new.arena.clauses s.trail p cl =
-    arrived s.arena.clauses c.add.new.self.clauses c.arrange.new.arena.clauses s.trail p cl
-    c.in_ok-place.ensures.fresh c.in_ok-place.ensures.clauses
-    c.arrange.ensures.reordered c.arrange.ensures.arranged c.arrange.ensures.still
-    (subst IsNormal (sym c.lits-2.ensures) c.requires.normal)
-    (subst (All (λ (l : Literal). l.index < s.trail.vars)) (sym c.lits-2.ensures)
-    (subst (λ (b : BaseState). All (λ (l : Literal). l.index < b.trail.vars) c.args.clause.now) (sym c.self.view_is)
-    c.requires.known))
-    (subst (IsAddable s.trail) (sym c.lits-2.ensures)
-    (subst (λ (b : BaseState). IsAddable b.trail c.args.clause.now) (sym c.self.view_is) c.requires.addable)) in
-    let forced = stands-at s.trail.assigned (lits_at c.arrange.new.arena.clauses p.0) c.lits-4.result.now
-    c.assess.result (Forced c.in-Forced.lit) c.lits-4.ensures c.in-Forced.is c.assess.ensures in
-    forced-known s.trail.assigned s.trail.vars (lits_at c.arrange.new.arena.clauses p.0) c.in-Forced.lit
-    (clause-known s.arena.clauses c.arrange.new.arena.clauses s.trail s.watches s.head s.broken.items p cl
-    c.self.invariant.ready a.fresh a.reordered a.distinct a.known) forced
+    let g = (goal.at.assign-requires-clause-within c).After-assess in
+    let a = (goal.at.assign-requires-clause-within c).After-arrange in
+    forced-known c.self.inside.trail.assigned c.self.inside.trail.vars
+    (lits_at c.arrange.new.arena.clauses c.in_ok-place.place.0) c.in-Forced.lit (known a)
+    (stands g (Forced c.in-Forced.lit) c.in-Forced.is)
 
 pub invariant_of-self-in-Forced : goal.invariant_of-self-in-Forced
 invariant_of-self-in-Forced c =
-    let s = c.self.inside in
-    let p = c.in_ok-place.place in
-    let cl : Stored = record { id = c.args.id; lbd = c.args.lbd; lits = c.lits-2.result.now } in
-    let a : IsArrived s.arena.clauses c.arrange.new.arena.clauses s.trail p cl =
-    arrived s.arena.clauses c.add.new.self.clauses c.arrange.new.arena.clauses s.trail p cl
-    c.in_ok-place.ensures.fresh c.in_ok-place.ensures.clauses
-    c.arrange.ensures.reordered c.arrange.ensures.arranged c.arrange.ensures.still
-    (subst IsNormal (sym c.lits-2.ensures) c.requires.normal)
-    (subst (All (λ (l : Literal). l.index < s.trail.vars)) (sym c.lits-2.ensures)
-    (subst (λ (b : BaseState). All (λ (l : Literal). l.index < b.trail.vars) c.args.clause.now) (sym c.self.view_is)
-    c.requires.known))
-    (subst (IsAddable s.trail) (sym c.lits-2.ensures)
-    (subst (λ (b : BaseState). IsAddable b.trail c.args.clause.now) (sym c.self.view_is) c.requires.addable)) in
-    let lacks : LacksId (clauses_in s.arena.clauses) c.args.id =
-    subst (λ (b : BaseState). LacksId b.clauses c.args.id) (sym c.self.view_is) c.requires.unused in
-    let lists = c.in_default-watch.ensures.ok ∙ ap (watching_too s.watches p) c.lits-3.ensures in
-    let forced = stands-at s.trail.assigned (lits_at c.arrange.new.arena.clauses p.0) c.lits-4.result.now
-    c.assess.result (Forced c.in-Forced.lit) c.lits-4.ensures c.in-Forced.is c.assess.ensures in
+    let g = (goal.at.invariant_of-self-in-Forced c).After-assess in
+    let a = (goal.at.invariant_of-self-in-Forced c).After-arrange in
     subst (λ xs. IsKeptBase c.arrange.new.arena.clauses c.assign.new.self c.watch.new.watches c.insert.new.self
-    s.head xs false None) (sym c.reserve.ensures.items)
-    (kept-forced s.arena.clauses c.arrange.new.arena.clauses s.trail s.watches c.watch.new.watches s.places
-    c.insert.new.self s.head s.broken.items s.quiet s.conflict p cl c.self.invariant a lacks lists
-    c.in_default.ensures.ok c.assign.new.self c.in-Forced.lit c.assign.ensures forced)
+    c.self.inside.head xs false None) (sym c.reserve.ensures.items)
+    (kept-forced (coming g (come a) (lacks a)) c.assign.new.self c.in-Forced.lit c.assign.ensures
+    (stands g (Forced c.in-Forced.lit) c.in-Forced.is))
 
 pub invariant_of-self-in-Rests : goal.invariant_of-self-in-Rests
 invariant_of-self-in-Rests c =
-    let s = c.self.inside in
-    let p = c.in_ok-place.place in
-    let cl : Stored = record { id = c.args.id; lbd = c.args.lbd; lits = c.lits-2.result.now } in
-    let a : IsArrived s.arena.clauses c.arrange.new.arena.clauses s.trail p cl =
-    arrived s.arena.clauses c.add.new.self.clauses c.arrange.new.arena.clauses s.trail p cl
-    c.in_ok-place.ensures.fresh c.in_ok-place.ensures.clauses
-    c.arrange.ensures.reordered c.arrange.ensures.arranged c.arrange.ensures.still
-    (subst IsNormal (sym c.lits-2.ensures) c.requires.normal)
-    (subst (All (λ (l : Literal). l.index < s.trail.vars)) (sym c.lits-2.ensures)
-    (subst (λ (b : BaseState). All (λ (l : Literal). l.index < b.trail.vars) c.args.clause.now) (sym c.self.view_is)
-    c.requires.known))
-    (subst (IsAddable s.trail) (sym c.lits-2.ensures)
-    (subst (λ (b : BaseState). IsAddable b.trail c.args.clause.now) (sym c.self.view_is) c.requires.addable)) in
-    let lacks : LacksId (clauses_in s.arena.clauses) c.args.id =
-    subst (λ (b : BaseState). LacksId b.clauses c.args.id) (sym c.self.view_is) c.requires.unused in
-    let lists = c.in_default-watch.ensures.ok ∙ ap (watching_too s.watches p) c.lits-3.ensures in
-    let rests = stands-at s.trail.assigned (lits_at c.arrange.new.arena.clauses p.0) c.lits-4.result.now
-    c.assess.result Rests c.lits-4.ensures c.in-Rests.is c.assess.ensures in
-    subst (λ xs. IsKeptBase c.arrange.new.arena.clauses s.trail c.watch.new.watches c.insert.new.self s.head xs false
-    None) (sym c.reserve.ensures.items)
-    (kept-rests s.arena.clauses c.arrange.new.arena.clauses s.trail s.watches c.watch.new.watches s.places
-    c.insert.new.self s.head s.broken.items s.quiet s.conflict p cl c.self.invariant a lacks lists
-    c.in_default.ensures.ok rests)
+    let g = (goal.at.invariant_of-self-in-Rests c).After-assess in
+    let a = (goal.at.invariant_of-self-in-Rests c).After-arrange in
+    subst (λ xs. IsKeptBase c.arrange.new.arena.clauses c.self.inside.trail c.watch.new.watches c.insert.new.self
+    c.self.inside.head xs false None) (sym c.reserve.ensures.items)
+    (kept-rests (coming g (come a) (lacks a)) (stands g Rests c.in-Rests.is))
 
 pub returns-in-Broken : goal.returns-in-Broken
 returns-in-Broken c =
-    let s = c.self.inside in
-    let p = c.in_ok-place.place in
-    let cl : Stored = record { id = c.args.id; lbd = c.args.lbd; lits = c.lits-2.result.now } in
-    let a : IsArrived s.arena.clauses c.arrange.new.arena.clauses s.trail p cl =
-    arrived s.arena.clauses c.add.new.self.clauses c.arrange.new.arena.clauses s.trail p cl
-    c.in_ok-place.ensures.fresh c.in_ok-place.ensures.clauses
-    c.arrange.ensures.reordered c.arrange.ensures.arranged c.arrange.ensures.still
-    (subst IsNormal (sym c.lits-2.ensures) c.requires.normal)
-    (subst (All (λ (l : Literal). l.index < s.trail.vars)) (sym c.lits-2.ensures)
-    (subst (λ (b : BaseState). All (λ (l : Literal). l.index < b.trail.vars) c.args.clause.now) (sym c.self.view_is)
-    c.requires.known))
-    (subst (IsAddable s.trail) (sym c.lits-2.ensures)
-    (subst (λ (b : BaseState). IsAddable b.trail c.args.clause.now) (sym c.self.view_is) c.requires.addable)) in
-    let lacks : LacksId (clauses_in s.arena.clauses) c.args.id =
-    subst (λ (b : BaseState). LacksId b.clauses c.args.id) (sym c.self.view_is) c.requires.unused in
-    let lists = c.in_default-watch.ensures.ok ∙ ap (watching_too s.watches p) c.lits-3.ensures in
-    let falses = stands-at s.trail.assigned (lits_at c.arrange.new.arena.clauses p.0) c.lits-4.result.now
-    c.assess.result Broken c.lits-4.ensures c.in-Broken.is c.assess.ensures in
-    subst (λ (b : BaseState). IsAdded b (record {
-      clauses = clauses_in c.arrange.new.arena.clauses;
-      trail = s.trail;
-      quiet = false;
-      conflict = None;
-    }) c.args.id c.args.lbd c.args.clause.now p) c.self.view_is
-    (subst (λ ls. IsAdded (record {
-      clauses = clauses_in s.arena.clauses;
-      trail = s.trail;
-      quiet = s.quiet;
-      conflict
-          = s.conflict;
-    }) (record {
-      clauses = clauses_in c.arrange.new.arena.clauses;
-      trail = s.trail;
-      quiet = false;
-      conflict = None;
-    }) c.args.id c.args.lbd ls p) c.lits-2.ensures
-    (added-broken s.arena.clauses c.arrange.new.arena.clauses s.trail s.watches c.watch.new.watches s.places
-    c.insert.new.self s.head s.broken.items s.quiet s.conflict p cl c.self.invariant a lacks lists
-    c.in_default.ensures.ok falses))
+    let g = (goal.at.returns-in-Broken c).After-assess in
+    let a = (goal.at.returns-in-Broken c).After-arrange in
+    as-added g c.self.inside.trail (added-broken (coming g (come a) (lacks a)) (stands g Broken c.in-Broken.is))
 
 pub returns-in-Forced : goal.returns-in-Forced
 returns-in-Forced c =
-    let s = c.self.inside in
-    let p = c.in_ok-place.place in
-    let cl : Stored = record { id = c.args.id; lbd = c.args.lbd; lits = c.lits-2.result.now } in
-    let a : IsArrived s.arena.clauses c.arrange.new.arena.clauses s.trail p cl =
-    arrived s.arena.clauses c.add.new.self.clauses c.arrange.new.arena.clauses s.trail p cl
-    c.in_ok-place.ensures.fresh c.in_ok-place.ensures.clauses
-    c.arrange.ensures.reordered c.arrange.ensures.arranged c.arrange.ensures.still
-    (subst IsNormal (sym c.lits-2.ensures) c.requires.normal)
-    (subst (All (λ (l : Literal). l.index < s.trail.vars)) (sym c.lits-2.ensures)
-    (subst (λ (b : BaseState). All (λ (l : Literal). l.index < b.trail.vars) c.args.clause.now) (sym c.self.view_is)
-    c.requires.known))
-    (subst (IsAddable s.trail) (sym c.lits-2.ensures)
-    (subst (λ (b : BaseState). IsAddable b.trail c.args.clause.now) (sym c.self.view_is) c.requires.addable)) in
-    let lacks : LacksId (clauses_in s.arena.clauses) c.args.id =
-    subst (λ (b : BaseState). LacksId b.clauses c.args.id) (sym c.self.view_is) c.requires.unused in
-    let lists = c.in_default-watch.ensures.ok ∙ ap (watching_too s.watches p) c.lits-3.ensures in
-    let forced = stands-at s.trail.assigned (lits_at c.arrange.new.arena.clauses p.0) c.lits-4.result.now
-    c.assess.result (Forced c.in-Forced.lit) c.lits-4.ensures c.in-Forced.is c.assess.ensures in
-    subst (λ (b : BaseState). IsAdded b (record {
-      clauses = clauses_in c.arrange.new.arena.clauses;
-      trail =
-          c.assign.new.self;
-      quiet = false;
-      conflict = None;
-    }) c.args.id c.args.lbd c.args.clause.now p) c.self.view_is
-    (subst (λ ls. IsAdded (record {
-      clauses = clauses_in s.arena.clauses;
-      trail = s.trail;
-      quiet = s.quiet;
-      conflict
-          = s.conflict;
-    }) (record {
-      clauses = clauses_in c.arrange.new.arena.clauses;
-      trail = c.assign.new.self;
-      quiet
-          = false;
-      conflict = None;
-    }) c.args.id c.args.lbd ls p) c.lits-2.ensures
-    (added-forced s.arena.clauses c.arrange.new.arena.clauses s.trail s.watches c.watch.new.watches s.places
-    c.insert.new.self s.head s.broken.items s.quiet s.conflict p cl c.self.invariant a lacks lists
-    c.in_default.ensures.ok c.assign.new.self c.in-Forced.lit c.assign.ensures forced))
+    let g = (goal.at.returns-in-Forced c).After-assess in
+    let a = (goal.at.returns-in-Forced c).After-arrange in
+    as-added g c.assign.new.self (added-forced (coming g (come a) (lacks a)) c.assign.new.self c.in-Forced.lit c.assign.ensures
+    (stands g (Forced c.in-Forced.lit) c.in-Forced.is))
 
 pub returns-in-Rests : goal.returns-in-Rests
 returns-in-Rests c =
-    let s = c.self.inside in
-    let p = c.in_ok-place.place in
-    let cl : Stored = record { id = c.args.id; lbd = c.args.lbd; lits = c.lits-2.result.now } in
-    let a : IsArrived s.arena.clauses c.arrange.new.arena.clauses s.trail p cl =
-    arrived s.arena.clauses c.add.new.self.clauses c.arrange.new.arena.clauses s.trail p cl
-    c.in_ok-place.ensures.fresh c.in_ok-place.ensures.clauses
-    c.arrange.ensures.reordered c.arrange.ensures.arranged c.arrange.ensures.still
-    (subst IsNormal (sym c.lits-2.ensures) c.requires.normal)
-    (subst (All (λ (l : Literal). l.index < s.trail.vars)) (sym c.lits-2.ensures)
-    (subst (λ (b : BaseState). All (λ (l : Literal). l.index < b.trail.vars) c.args.clause.now) (sym c.self.view_is)
-    c.requires.known))
-    (subst (IsAddable s.trail) (sym c.lits-2.ensures)
-    (subst (λ (b : BaseState). IsAddable b.trail c.args.clause.now) (sym c.self.view_is) c.requires.addable)) in
-    let lacks : LacksId (clauses_in s.arena.clauses) c.args.id =
-    subst (λ (b : BaseState). LacksId b.clauses c.args.id) (sym c.self.view_is) c.requires.unused in
-    let lists = c.in_default-watch.ensures.ok ∙ ap (watching_too s.watches p) c.lits-3.ensures in
-    let rests = stands-at s.trail.assigned (lits_at c.arrange.new.arena.clauses p.0) c.lits-4.result.now
-    c.assess.result Rests c.lits-4.ensures c.in-Rests.is c.assess.ensures in
-    subst (λ (b : BaseState). IsAdded b (record {
-      clauses = clauses_in c.arrange.new.arena.clauses;
-      trail = s.trail;
-      quiet = false;
-      conflict = None;
-    }) c.args.id c.args.lbd c.args.clause.now p) c.self.view_is
-    (subst (λ ls. IsAdded (record {
-      clauses = clauses_in s.arena.clauses;
-      trail = s.trail;
-      quiet = s.quiet;
-      conflict
-          = s.conflict;
-    }) (record {
-      clauses = clauses_in c.arrange.new.arena.clauses;
-      trail = s.trail;
-      quiet = false;
-      conflict = None;
-    }) c.args.id c.args.lbd ls p) c.lits-2.ensures
-    (added-rests s.arena.clauses c.arrange.new.arena.clauses s.trail s.watches c.watch.new.watches s.places
-    c.insert.new.self s.head s.broken.items s.quiet s.conflict p cl c.self.invariant a lacks lists
-    c.in_default.ensures.ok rests))
+    let g = (goal.at.returns-in-Rests c).After-assess in
+    let a = (goal.at.returns-in-Rests c).After-arrange in
+    as-added g c.self.inside.trail (added-rests (coming g (come a) (lacks a)) (stands g Rests c.in-Rests.is))
