@@ -1,0 +1,83 @@
+-- what is known of a clause while it is added
+use Rattle.std.proofs.Common.{◌≡◌, ◌<◌, None, All, false, ap, sym, ◌∙◌, subst}
+use Rattle.gr_logic.specs.Literals.{Literal}
+use Rattle.gr_logic.specs.NormalForms.{IsNormal}
+use Rattle.gr_prop.specs.Bases.{BaseState, clauses_in, LacksId}
+use Rattle.gr_prop.specs.BaseChanges.{IsAddable, IsAdded}
+use Rattle.gr_trail.specs.Trails.{TrailState}
+use Rattle.gr_prop.specs.Watching.{lits_at}
+use Rattle.gr_prop.specs.Additions.{StandsAs, watching_too}
+use Rattle.gr_prop.specs.declared.additions.Standing.{Standing}
+use Rattle.gr_prop.proofs.Adding.{clause-known}
+use Rattle.gr_prop.proofs.Arrivals.{IsArrived, IsComing, arrived, stands-at}
+use Rattle.gr_prop.proofs.bases.Base.add.Goals.{After-arrange, After-assess}
+
+-- what is known of the clause once its literals are arranged
+pub come : (c : After-arrange) → IsArrived c.self.inside.arena.clauses c.arrange.new.arena.clauses c.self.inside.trail
+    c.in_ok-place.place (record { id = c.args.id; lbd = c.args.lbd; lits = c.lits-2.result.now })
+come c =
+    let s = c.self.inside in
+    arrived s.arena.clauses c.add.new.self.clauses c.arrange.new.arena.clauses s.trail c.in_ok-place.place _
+    c.in_ok-place.ensures.fresh c.in_ok-place.ensures.clauses
+    c.arrange.ensures.reordered c.arrange.ensures.arranged c.arrange.ensures.still
+    (subst IsNormal (sym c.lits-2.ensures) c.requires.normal)
+    (subst (All (λ (l : Literal). l.index < s.trail.vars)) (sym c.lits-2.ensures)
+    (subst (λ (b : BaseState). All (λ (l : Literal). l.index < b.trail.vars) c.args.clause.now) (sym c.self.view_is)
+    c.requires.known))
+    (subst (IsAddable s.trail) (sym c.lits-2.ensures)
+    (subst (λ (b : BaseState). IsAddable b.trail c.args.clause.now) (sym c.self.view_is) c.requires.addable))
+
+-- its literals are known
+pub known : (c : After-arrange) → All (λ (l : Literal). l.index < c.self.inside.trail.vars)
+    (lits_at c.arrange.new.arena.clauses c.in_ok-place.place.0)
+known c =
+    let s = c.self.inside in
+    let a = come c in
+    clause-known s.arena.clauses c.arrange.new.arena.clauses s.trail s.watches s.head s.broken.items
+    c.in_ok-place.place _ c.self.invariant.ready a.fresh a.reordered a.distinct a.known
+
+-- no clause of the base has its id
+pub lacks : (c : After-arrange) → LacksId (clauses_in c.self.inside.arena.clauses) c.args.id
+lacks c = subst (λ (b : BaseState). LacksId b.clauses c.args.id) (sym c.self.view_is) c.requires.unused
+
+-- it has its watches and its id
+pub coming : (c : After-assess) → IsArrived c.self.inside.arena.clauses c.arrange.new.arena.clauses c.self.inside.trail
+    c.in_ok-place.place (record { id = c.args.id; lbd = c.args.lbd; lits = c.lits-2.result.now })
+    → LacksId (clauses_in c.self.inside.arena.clauses) c.args.id
+    → IsComing c.self.inside.arena.clauses c.arrange.new.arena.clauses c.self.inside.trail c.self.inside.watches
+    c.watch.new.watches c.self.inside.places c.insert.new.self c.self.inside.head c.self.inside.broken.items
+    c.self.inside.quiet c.self.inside.conflict c.in_ok-place.place
+    (record { id = c.args.id; lbd = c.args.lbd; lits = c.lits-2.result.now })
+coming c come unused = record {
+  kept = c.self.invariant;
+  come = come;
+  unused = unused;
+  lists = c.in_default-watch.ensures.ok ∙ ap (watching_too c.self.inside.watches c.in_ok-place.place) c.lits-3.ensures;
+  index = c.in_default.ensures.ok;
+}
+
+-- how it stands
+pub stands : (c : After-assess) (x : Standing) → c.assess.result ≡ x → StandsAs c.self.inside.trail.assigned
+    (lits_at c.arrange.new.arena.clauses c.in_ok-place.place.0) x
+stands c x is = stands-at c.self.inside.trail.assigned (lits_at c.arrange.new.arena.clauses c.in_ok-place.place.0)
+    c.lits-4.result.now c.assess.result x c.lits-4.ensures is c.assess.ensures
+
+-- the base before and afterwards, as its view tells them
+abbrev pub was : After-assess → BaseState
+was c = record {
+  clauses = clauses_in c.self.inside.arena.clauses;
+  trail = c.self.inside.trail;
+  quiet = c.self.inside.quiet;
+  conflict = c.self.inside.conflict;
+}
+
+abbrev pub becomes : After-assess → TrailState → BaseState
+becomes c t = record { clauses = clauses_in c.arrange.new.arena.clauses; trail = t; quiet = false; conflict = None }
+
+pub as-added : (c : After-assess) (t : TrailState) → IsAdded (was c) (becomes c t) c.args.id c.args.lbd
+    c.lits-2.result.now c.in_ok-place.place
+    → IsAdded c.args.self.now (becomes c t) c.args.id c.args.lbd c.args.clause.now c.in_ok-place.place
+as-added c t added =
+    subst (λ (b : BaseState). IsAdded b (becomes c t) c.args.id c.args.lbd c.args.clause.now c.in_ok-place.place)
+    c.self.view_is
+    (subst (λ ls. IsAdded (was c) (becomes c t) c.args.id c.args.lbd ls c.in_ok-place.place) c.lits-2.ensures added)
