@@ -1,7 +1,6 @@
 use Rattle.std.proofs.Common.{◌≡◌, ◌<◌, ◌++◌, ◌∷◌, [], IsSome, None, All, false, true, is_ok, if◌then◌else◌, ap, sym, ◌∙◌, subst, refl, arith}
 use Rattle.std.specs.FinMap as finite
 use Rattle.gr_logic.specs.Literals.{Literal}
-use Rattle.gr_arena.specs.Arenas.{Stored}
 use Rattle.gr_prop.specs.Bases.{BaseState, clauses_in}
 use Rattle.gr_prop.specs.Watching.{lits_at, IsKeptBase}
 use Rattle.gr_prop.specs.Additions.{IsArranged}
@@ -9,11 +8,10 @@ use Rattle.gr_prop.specs.declared.additions.Standing.TheVariants.{Broken, Forced
 use Rattle.gr_prop.proofs.Stores.{get-insert-same, lits-insert, remove-insert}
 use Rattle.gr_prop.proofs.Finding.{unused-none}
 use Rattle.gr_prop.proofs.Forcing.{forced-known}
-use Rattle.gr_prop.proofs.Arrivals.{taken-back, kept-same, kept-rests, kept-broken, kept-forced, added-rests, added-broken, added-forced}
-use Rattle.gr_prop.proofs.bases.Base.add.Answers.Incoming.{come, known, lacks, coming, stands, as-added}
+use Rattle.gr_prop.proofs.Arrivals.{kept-same, kept-rests, kept-broken, kept-forced, added-rests, added-broken, added-forced}
+use Rattle.gr_prop.proofs.bases.Base.add.Answers.Incoming.{taken, come, known, lacks, coming, stands, as-added}
 use Rattle.gr_prop.proofs.bases.Base.add.Goals.{After-arrange, After-assess}
 use Rattle.gr_prop.proofs.bases.Base.add.Goals as goal
-
 mod Incoming
 
 pub arrange-requires-clause-there : goal.arrange-requires-clause-there
@@ -32,14 +30,11 @@ arrange-requires-clause-known c =
 pub invariant_of-self-in-Err : goal.invariant_of-self-in-Err
 invariant_of-self-in-Err c =
     let s = c.self.inside in
-    let p = c.in_ok-place.place in
-    let cl : Stored = record { id = c.args.id; lbd = c.args.lbd; lits = c.lits-2.result.now } in
+    let g = (goal.at.invariant_of-self-in-Err c).After-arrange in
     kept-same s.arena.clauses c.remove.new.self.clauses s.trail s.watches s.watches s.places c.insert.new.self s.head
     s.broken.items c.reserve.new.self.items s.quiet s.conflict
-    (ap (λ x. x.clauses) c.remove.ensures ∙ taken-back s.arena.clauses c.add.new.self.clauses
-    c.arrange.new.arena.clauses p cl c.in_ok-place.ensures.fresh c.in_ok-place.ensures.clauses
-    c.arrange.ensures.reordered)
-    refl c.in-Err.ensures.err c.reserve.ensures.items c.self.invariant
+    (ap (λ x. x.clauses) c.remove.ensures ∙ taken g) refl c.in-Err.ensures.err c.reserve.ensures.items
+    c.self.invariant
 
 pub watch-requires : goal.watch-requires
 watch-requires c = record {
@@ -51,17 +46,13 @@ watch-requires c = record {
 pub invariant_of-self-in-Err-watch : goal.invariant_of-self-in-Err-watch
 invariant_of-self-in-Err-watch c =
     let s = c.self.inside in
-    let p = c.in_ok-place.place in
     let g = (goal.at.invariant_of-self-in-Err-watch c).After-arrange in
     kept-same s.arena.clauses c.remove-in-Err-watch-2.new.self.clauses s.trail s.watches c.watch.new.watches s.places
     c.remove-in-Err-watch.new.self s.head s.broken.items c.reserve.new.self.items s.quiet s.conflict
-    (ap (λ x. x.clauses) c.remove-in-Err-watch-2.ensures ∙ taken-back s.arena.clauses c.add.new.self.clauses
-    c.arrange.new.arena.clauses p _ c.in_ok-place.ensures.fresh c.in_ok-place.ensures.clauses
-    c.arrange.ensures.reordered)
-    c.in-Err-watch.ensures.err
+    (ap (λ x. x.clauses) c.remove-in-Err-watch-2.ensures ∙ taken g) c.in-Err-watch.ensures.err
     (c.remove-in-Err-watch.ensures ∙ ap (λ m. finite.remove m c.args.id) c.in_default.ensures.ok ∙ remove-insert
-    s.places c.args.id p (unused-none (clauses_in s.arena.clauses) s.places c.args.id c.self.invariant.indexed
-    (lacks g)))
+    s.places c.args.id c.in_ok-place.place
+    (unused-none (clauses_in s.arena.clauses) s.places c.args.id c.self.invariant.indexed (lacks g)))
     c.reserve.ensures.items c.self.invariant
 
 pub assess-requires-clause-arranged : goal.assess-requires-clause-arranged

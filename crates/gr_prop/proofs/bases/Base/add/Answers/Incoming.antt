@@ -1,5 +1,6 @@
 -- what is known of a clause while it is added
 use Rattle.std.proofs.Common.{◌≡◌, ◌<◌, None, All, false, ap, sym, ◌∙◌, subst}
+use Rattle.std.specs.FinMap as finite
 use Rattle.gr_logic.specs.Literals.{Literal}
 use Rattle.gr_logic.specs.NormalForms.{IsNormal}
 use Rattle.gr_prop.specs.Bases.{BaseState, clauses_in, LacksId}
@@ -9,7 +10,7 @@ use Rattle.gr_prop.specs.Watching.{lits_at}
 use Rattle.gr_prop.specs.Additions.{StandsAs, watching_too}
 use Rattle.gr_prop.specs.declared.additions.Standing.{Standing}
 use Rattle.gr_prop.proofs.Adding.{clause-known}
-use Rattle.gr_prop.proofs.Arrivals.{IsArrived, IsComing, arrived, stands-at}
+use Rattle.gr_prop.proofs.Arrivals.{IsArrived, IsComing, arrived, taken-back, stands-at}
 use Rattle.gr_prop.proofs.bases.Base.add.Goals.{After-arrange, After-assess}
 
 -- what is known of the clause once its literals are arranged
@@ -39,6 +40,12 @@ known c =
 -- no clause of the base has its id
 pub lacks : (c : After-arrange) → LacksId (clauses_in c.self.inside.arena.clauses) c.args.id
 lacks c = subst (λ (b : BaseState). LacksId b.clauses c.args.id) (sym c.self.view_is) c.requires.unused
+
+-- the base's clauses are back where it is removed
+pub taken : (c : After-arrange) → finite.remove c.arrange.new.arena.clauses c.in_ok-place.place.0
+    ≡ c.self.inside.arena.clauses
+taken c = taken-back c.self.inside.arena.clauses c.add.new.self.clauses c.arrange.new.arena.clauses
+    c.in_ok-place.place _ c.in_ok-place.ensures.fresh c.in_ok-place.ensures.clauses c.arrange.ensures.reordered
 
 -- it has its watches and its id
 pub coming : (c : After-assess) → IsArrived c.self.inside.arena.clauses c.arrange.new.arena.clauses c.self.inside.trail
