@@ -1,106 +1,69 @@
-use Rattle.std.proofs.Common.{◌≡◌, ◌≤◌, ◌<◌, ◌++◌, ◌∷◌, ℕ, [], All, length, Some, None, true, false, get_or, refl, sym, ap, ◌∙◌, subst, arith, inl, inr}
-use Rattle.std.proofs.lemmas.List.Sorted.{All-permutation}
-use Rattle.gr_logic.specs.Literals.{Literal, same_literal, negation}
-use Rattle.gr_trail.specs.Trails.{Assigned, true_in}
+use Rattle.std.proofs.Common.{◌≤◌, ◌<◌, ◌++◌, ◌∷◌, [], All, true, false, get_or, refl, sym, ap, ◌∙◌, subst, arith, inl, inr}
+use Rattle.gr_logic.specs.Literals.{Literal, negation}
+use Rattle.gr_trail.specs.Trails.{true_in}
 use Rattle.gr_watch.specs.WatchLists.{list_of, with_list}
-use Rattle.gr_prop.specs.Watching.{lits_at, AllFalse}
-use Rattle.gr_prop.specs.BaseChanges.{with_forced}
+use Rattle.gr_prop.specs.Watching.{lits_at}
 use Rattle.gr_prop.specs.Visits.{IsReordered, OthersFalse}
 use Rattle.gr_prop.proofs.Stores.{swapped-reordered, lits-swapped, reordered-on}
-use Rattle.gr_prop.proofs.Endings.{head-is, others-false, all-false, moved-is}
+use Rattle.gr_prop.proofs.Endings.{others-false, all-false, moved-is}
+use Rattle.gr_prop.proofs.visits.visit.Answers.Watched.{all-known, other-is, other-known, next-high, next-is, others}
+use Rattle.gr_prop.proofs.visits.visit.Goals.{After-index-lits-0, After-index-lits-k, In-None}
 use Rattle.gr_prop.proofs.visits.visit.Goals as goal
+mod Watched
 
 pub holds-requires : goal.holds-requires
-holds-requires c =
-    let turned = c.bring_second.ensures.turned in
-    let all = All-permutation (λ (l : Literal). l.index < c.args.trail.now.vars) _ _
-    c.bring_second.ensures.reordered.lits c.requires.known in
-    let first : turned.first.index < c.args.trail.now.vars = subst
-    (All (λ (l : Literal). l.index < c.args.trail.now.vars)) turned.is all 0 turned.first (omega arith) in
-    let is : c.index-lits-0.result ≡ turned.first =
-    head-is _ _ _ _ (c.index-lits-0.is ∙ ap (λ s. get_or s 0 c.index-lits-0.result) c.lits.ensures) turned.is in
-    subst (λ (l : Literal). l.index < c.args.trail.now.vars) (sym is) first
+holds-requires c = other-known c
 
 pub returns-then-holds-clause-ok : goal.returns-then-holds-clause-ok
-returns-then-holds-clause-ok c =
-    let turned = c.bring_second.ensures.turned in
-    record {
-      reordered = c.bring_second.ensures.reordered;
-      turned = turned;
-      first = head-is _ _ _ _ (c.index-lits-0.is ∙ ap (λ s. get_or s 0 c.index-lits-0.result) c.lits.ensures) turned.is;
-      lists = refl;
-      trail = inl (sym c.holds.ensures ∙ c.if-holds.true, refl);
-    }
+returns-then-holds-clause-ok c = record {
+  reordered = c.bring_second.ensures.reordered;
+  turned = c.bring_second.ensures.turned;
+  first = other-is (goal.at.returns-then-holds-clause-ok c).After-index-lits-0;
+  lists = refl;
+  trail = inl (sym c.holds.ensures ∙ c.if-holds.true, refl);
+}
 
 pub find_free-requires-clause-known : goal.find_free-requires-clause-known
-find_free-requires-clause-known c =
-    subst (All (λ (l : Literal). l.index < c.args.trail.now.vars)) (sym c.lits-2.ensures)
-    (All-permutation (λ (l : Literal). l.index < c.args.trail.now.vars) _ _ c.bring_second.ensures.reordered.lits
-    c.requires.known)
+find_free-requires-clause-known c = subst (All (λ (l : Literal). l.index < c.args.trail.now.vars))
+    (sym c.lits-2.ensures) (all-known (goal.at.find_free-requires-clause-known c).After-index-lits-0)
 
 pub attach-requires : goal.attach-requires
 attach-requires c =
-    let all = All-permutation (λ (l : Literal). l.index < c.args.trail.now.vars) _ _
-    c.bring_second.ensures.reordered.lits c.requires.known in
-    let high : c.in-Some.k < length (lits_at c.bring_second.new.arena.clauses c.args.place.0) = subst
-    (λ s. c.in-Some.k < length s) c.lits-2.ensures c.in-Some.ensures.high in
-    let is : c.index-lits-k.result ≡ get_or (lits_at c.bring_second.new.arena.clauses c.args.place.0) c.in-Some.k
-    c.index-lits-k.result =
-    c.index-lits-k.is ∙ ap (λ s. get_or s c.in-Some.k c.index-lits-k.result) c.lits-in-Some.ensures in
+    let k = (goal.at.attach-requires c).After-index-lits-k in
+    let all = all-known (goal.at.attach-requires c).After-index-lits-0 in
     subst (λ n. c.index-lits-k.result.index < n) (sym c.requires.vars)
-    (subst (λ (l : Literal). l.index < c.args.trail.now.vars) (sym is) (all c.in-Some.k c.index-lits-k.result high))
+    (subst (λ (l : Literal). l.index < c.args.trail.now.vars) (sym (next-is k))
+    (all c.in-Some.k c.index-lits-k.result (next-high k)))
 
 pub holds-requires-in-None : goal.holds-requires-in-None
-holds-requires-in-None c =
-    let turned = c.bring_second.ensures.turned in
-    let all = All-permutation (λ (l : Literal). l.index < c.args.trail.now.vars) _ _
-    c.bring_second.ensures.reordered.lits c.requires.known in
-    let first : turned.first.index < c.args.trail.now.vars = subst
-    (All (λ (l : Literal). l.index < c.args.trail.now.vars)) turned.is all 0 turned.first (omega arith) in
-    let is : c.index-lits-0.result ≡ turned.first =
-    head-is _ _ _ _ (c.index-lits-0.is ∙ ap (λ s. get_or s 0 c.index-lits-0.result) c.lits.ensures) turned.is in
-    subst (λ (l : Literal). l.index < c.args.trail.now.vars) (sym (c.negate.ensures ∙ ap negation is)) first
+holds-requires-in-None c = subst (λ (l : Literal). l.index < c.args.trail.now.vars) (sym c.negate.ensures)
+    (other-known (goal.at.holds-requires-in-None c).After-index-lits-0)
 
 pub returns-then-holds-2-clause-ok : goal.returns-then-holds-2-clause-ok
 returns-then-holds-2-clause-ok c =
     let turned = c.bring_second.ensures.turned in
-    let is : c.index-lits-0.result ≡ turned.first =
-    head-is _ _ _ _ (c.index-lits-0.is ∙ ap (λ s. get_or s 0 c.index-lits-0.result) c.lits.ensures) turned.is in
-    let others : OthersFalse c.args.trail.now.assigned (lits_at c.bring_second.new.arena.clauses c.args.place.0)
-    turned.first =
-    others-false _ _ _ _ _ turned.is c.requires.falsified (rw c.lits-2.ensures at c.in-None.ensures.none) in
+    let is = other-is (goal.at.returns-then-holds-2-clause-ok c).After-index-lits-0 in
+    let others-false = others (goal.at.returns-then-holds-2-clause-ok c).In-None in
     record {
       reordered = c.bring_second.ensures.reordered;
       turned = turned;
       all_false = all-false _ _ turned.first (ap (λ l. true_in c.args.trail.now.assigned (negation l)) (sym is)
           ∙ ap (true_in c.args.trail.now.assigned) (sym c.negate.ensures) ∙ sym c.holds-in-None.ensures ∙
-          c.if-holds-2.true) others;
+          c.if-holds-2.true) others-false;
       trail = refl;
       lists = refl;
     }
 
 pub assign-requires-clause-within : goal.assign-requires-clause-within
-assign-requires-clause-within c =
-    let turned = c.bring_second.ensures.turned in
-    let all = All-permutation (λ (l : Literal). l.index < c.args.trail.now.vars) _ _
-    c.bring_second.ensures.reordered.lits c.requires.known in
-    let first : turned.first.index < c.args.trail.now.vars = subst
-    (All (λ (l : Literal). l.index < c.args.trail.now.vars)) turned.is all 0 turned.first (omega arith) in
-    let is : c.index-lits-0.result ≡ turned.first =
-    head-is _ _ _ _ (c.index-lits-0.is ∙ ap (λ s. get_or s 0 c.index-lits-0.result) c.lits.ensures) turned.is in
-    subst (λ (l : Literal). l.index < c.args.trail.now.vars) (sym is) first
+assign-requires-clause-within c = other-known (goal.at.assign-requires-clause-within c).After-index-lits-0
 
 pub returns-in_ok-attach-in-Some-clause-ok : goal.returns-in_ok-attach-in-Some-clause-ok
 returns-in_ok-attach-in-Some-clause-ok c =
     let turned = c.bring_second.ensures.turned in
-    let first-is : c.index-lits-0.result ≡ turned.first =
-    head-is _ _ _ _ (c.index-lits-0.is ∙ ap (λ s. get_or s 0 c.index-lits-0.result) c.lits.ensures) turned.is in
-    let high : c.in-Some.k < length (lits_at c.bring_second.new.arena.clauses c.args.place.0) = subst
-    (λ s. c.in-Some.k < length s) c.lits-2.ensures c.in-Some.ensures.high in
+    let first-is = other-is (goal.at.returns-in_ok-attach-in-Some-clause-ok c).After-index-lits-0 in
+    let high = next-high (goal.at.returns-in_ok-attach-in-Some-clause-ok c).After-index-lits-k in
+    let is = next-is (goal.at.returns-in_ok-attach-in-Some-clause-ok c).After-index-lits-k in
     let low : 2 ≤ c.in-Some.k = c.in-Some.ensures.low in
-    let is : c.index-lits-k.result ≡ get_or (lits_at c.bring_second.new.arena.clauses c.args.place.0) c.in-Some.k
-    c.index-lits-k.result =
-    c.index-lits-k.is ∙ ap (λ s. get_or s c.in-Some.k c.index-lits-k.result) c.lits-in-Some.ensures in
     let moved = moved-is _ (lits_at c.swap.new.self.clauses c.args.place.0) turned.first c.args.gone turned.rest
     c.in-Some.k c.index-lits-k.result turned.is low is high
     (ap (λ a. lits_at a.clauses c.args.place.0) c.swap.ensures ∙ lits-swapped c.bring_second.new.arena.clauses
@@ -131,11 +94,8 @@ returns-in_ok-attach-in-Some-clause-ok c =
 pub returns-else-holds-2-clause-ok : goal.returns-else-holds-2-clause-ok
 returns-else-holds-2-clause-ok c =
     let turned = c.bring_second.ensures.turned in
-    let is : c.index-lits-0.result ≡ turned.first =
-    head-is _ _ _ _ (c.index-lits-0.is ∙ ap (λ s. get_or s 0 c.index-lits-0.result) c.lits.ensures) turned.is in
-    let others : OthersFalse c.args.trail.now.assigned (lits_at c.bring_second.new.arena.clauses c.args.place.0)
-    turned.first =
-    others-false _ _ _ _ _ turned.is c.requires.falsified (rw c.lits-2.ensures at c.in-None.ensures.none) in
+    let is = other-is (goal.at.returns-else-holds-2-clause-ok c).After-index-lits-0 in
+    let others-false = others (goal.at.returns-else-holds-2-clause-ok c).In-None in
     record {
       reordered = c.bring_second.ensures.reordered;
       turned = turned;
@@ -143,7 +103,7 @@ returns-else-holds-2-clause-ok c =
       lists = refl;
       trail = inr (
         subst (OthersFalse c.args.trail.now.assigned (lits_at c.bring_second.new.arena.clauses c.args.place.0))
-            (sym is) others,
+            (sym is) others-false,
         sym c.holds.ensures ∙ c.if-holds.false,
         ap (true_in c.args.trail.now.assigned) (sym c.negate.ensures) ∙ sym c.holds-in-None.ensures ∙
             c.if-holds-2.false,

@@ -1,0 +1,77 @@
+-- a round of propagation, and how the rounds end
+use Rattle.std.proofs.Common.{◌≡◌, ◌≤◌, ◌<◌, length, [], IsSome, true, false, get_or, sym, ap, ◌∙◌, subst}
+use Rattle.std.specs.FinMap as finite
+use Rattle.std.specs.List.{slice_get}
+use Rattle.std.proofs.lemmas.List.{length-map}
+use Rattle.gr_logic.specs.Literals.{negation}
+use Rattle.gr_trail.specs.Trails.{Assigned}
+use Rattle.gr_prop.specs.Bases.{clauses_in}
+use Rattle.gr_prop.specs.BaseChanges.{IsGrown}
+use Rattle.gr_prop.specs.Watching.{lits_at, AllFalse, IsReady, IsIndexed}
+use Rattle.gr_prop.proofs.Rounds.{lit-at, round-stops}
+use Rattle.gr_prop.proofs.Keeping.{grown-on, first-broken}
+use Rattle.gr_prop.proofs.bases.Base.propagate.Goals.{After-self-in-Some-1, After-negate-gone, After-put, After-self-in-Some-2-1, After-self-3-1}
+
+-- the first clause that was false when it came in is false
+pub broken : (c : After-self-in-Some-1) → IsSome (finite.get c.self.inside.arena.clauses c.in-Some.place.0)
+    × AllFalse c.self.inside.trail.assigned (lits_at c.self.inside.arena.clauses c.in-Some.place.0)
+broken c = c.self.invariant.ready.broken'.false' c.in-Some.place.0
+    (first-broken c.self.inside.broken.items c.in-Some.place (sym (c.copied.ensures ∙ c.first.ensures.value ∙ ap
+    (λ xs. slice_get xs 0) c.deref.ensures.value) ∙ c.in-Some.is))
+
+-- the literal at the queue's head
+pub at-head : (c : After-negate-gone) → (x : Assigned)
+    × ((x ≡ get_or c.loop-self.self-inside.trail.assigned c.loop-self.self-inside.head x)
+    × ((x.lit ≡ c.index-lits-self.result)
+    × (c.loop-self.self-inside.head < length c.loop-self.self-inside.trail.assigned)))
+at-head c =
+    let s = c.loop-self.self-inside in
+    lit-at s.trail.assigned s.head c.index-lits-self.result
+    (subst (λ x. s.head < length x) c.lits.ensures.lits c.loop-self-test.true)
+    (c.index-lits-self.is ∙ ap (λ ls. get_or ls s.head c.index-lits-self.result) c.lits-in-loop-self.ensures.lits)
+
+-- its negation is what became false
+pub gone-is : (c : After-negate-gone) → c.negate-gone.result ≡ negation (at-head c).0.lit
+gone-is c = c.negate-gone.ensures ∙ ap negation (sym (at-head c).1.1.0)
+
+-- the walked list is back
+pub stopped : (c : After-put) → IsReady c.walk-found.new.arena.clauses c.walk-found.new.trail c.put.new.self
+    c.loop-self.self-inside.head []
+stopped c =
+    let s = c.loop-self.self-inside in
+    round-stops s.arena.clauses _ s.trail _ s.watches c.walk-found.new.watches c.put.new.self
+    c.walk-found.new.list.items c.negate-gone.result s.head c.loop-self.invariant.ready
+    c.walk-found.ensures.progress c.walk-found.ensures.walking c.put.ensures
+
+-- and with the clauses that were false when they came in, of which there are none
+pub stopped-broken : (c : After-put) → IsReady c.walk-found.new.arena.clauses c.walk-found.new.trail c.put.new.self
+    c.loop-self.self-inside.head c.loop-self.self-inside.broken.items
+stopped-broken c = subst (IsReady c.walk-found.new.arena.clauses c.walk-found.new.trail c.put.new.self
+    c.loop-self.self-inside.head) (sym c.loop-self.invariant.none) (stopped c)
+
+-- what the walk keeps
+pub indexed-still : (c : After-put) → IsIndexed (clauses_in c.walk-found.new.arena.clauses)
+    c.loop-self.self-inside.places
+indexed-still c = subst (λ k. IsIndexed k c.loop-self.self-inside.places)
+    (sym c.walk-found.ensures.progress.clauses) c.loop-self.invariant.indexed
+
+pub clauses-still : (c : After-put) → clauses_in c.walk-found.new.arena.clauses ≡ c.args.self.now.clauses
+clauses-still c = c.walk-found.ensures.progress.clauses ∙ c.loop-self.invariant.clauses
+
+pub grown-still : (c : After-put) → IsGrown c.args.self.now.trail c.walk-found.new.trail
+grown-still c = grown-on _ c.loop-self.self-inside.trail _ c.loop-self.invariant.grown
+    c.walk-found.ensures.progress.grown
+
+-- the clause that the walk ended at is false
+pub found-there : (c : After-self-in-Some-2-1) → IsSome
+    (finite.get c.walk-found.new.arena.clauses c.in-Some-2.place.0)
+found-there c = rw c.in-Some-2.is at c.in_ok-place.ensures.there
+
+pub found-false : (c : After-self-in-Some-2-1) → AllFalse c.walk-found.new.trail.assigned
+    (lits_at c.walk-found.new.arena.clauses c.in-Some-2.place.0)
+found-false c = rw c.in-Some-2.is at c.in_ok-place.ensures.falsified
+
+-- nothing is left in the queue
+pub ended : (c : After-self-3-1) → length c.loop-self.self-inside.trail.assigned ≤ c.loop-self.self-inside.head
+ended c = subst (λ n. n ≤ c.loop-self.self-inside.head) (ap length c.lits.ensures.lits
+    ∙ length-map c.loop-self.self-inside.trail.assigned (λ x. x.lit)) c.loop-self-test.false
