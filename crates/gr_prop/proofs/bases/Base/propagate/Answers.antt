@@ -6,24 +6,26 @@ use Rattle.gr_prop.proofs.WalkSteps.{grown-itself}
 use Rattle.gr_prop.proofs.Rounds.{round-begins, round-on, ready-closed}
 use Rattle.gr_prop.proofs.Keeping.{decisions-grown, kept-open, kept-conflict, kept-quiet, false-at, false-derives, none-first}
 use Rattle.gr_prop.proofs.bases.Base.propagate.Answers.Queue.{broken, at-head, gone-is, stopped, stopped-broken, indexed-still, clauses-still, grown-still, found-there, found-false, ended}
-use Rattle.gr_prop.proofs.bases.Base.propagate.Goals.{After-negate-gone, After-put}
+use Rattle.gr_prop.proofs.bases.Base.propagate.Goals.{After-negate-gone, After-put, After-loop-self, In-Some, In-Some-2}
 use Rattle.gr_prop.proofs.bases.Base.propagate.Goals as goal
 mod Queue
 
 pub invariant_of-self : goal.invariant_of-self
 invariant_of-self c =
     let s = c.self.inside in
+    let b = broken (goal.at.invariant_of-self c).In-Some in
     kept-conflict s.arena.clauses s.trail s.watches s.places s.head s.broken.items false c.in-Some.place
-    c.self.invariant.ready c.self.invariant.indexed refl (broken c).0 (broken c).1
+    c.self.invariant.ready c.self.invariant.indexed refl b.0 b.1
 
 pub returns-in-Some-clause-ends : goal.returns-in-Some-clause-ends
 returns-in-Some-clause-ends c =
-    let s = c.self.inside in (
+    let s = c.self.inside in
+    let b = broken (goal.at.returns-in-Some-clause-ends c).In-Some in (
       refl,
       refl,
-      false-at s.arena.clauses s.trail c.in-Some.place (broken c).0 (broken c).1,
+      false-at s.arena.clauses s.trail c.in-Some.place b.0 b.1,
       false-derives s.arena.clauses s.trail s.watches s.head s.broken.items c.in-Some.place c.self.invariant.ready
-          (broken c).0 (broken c).1,
+          b.0 b.1,
     )
 
 pub loop-self-init : goal.loop-self-init
@@ -81,9 +83,10 @@ pub invariant_of-self-in-Some-2 : goal.invariant_of-self-in-Some-2
 invariant_of-self-in-Some-2 c =
     let s = c.loop-self.self-inside in
     let g = (goal.at.invariant_of-self-in-Some-2 c).After-put in
+    let f = (goal.at.invariant_of-self-in-Some-2 c).In-Some-2 in
     kept-conflict c.walk-found.new.arena.clauses c.walk-found.new.trail c.put.new.self s.places s.head s.broken.items
-    s.quiet c.in-Some-2.place (stopped-broken g) (indexed-still g) c.loop-self.invariant.quiet (found-there c)
-    (found-false c)
+    s.quiet c.in-Some-2.place (stopped-broken g) (indexed-still g) c.loop-self.invariant.quiet (found-there f)
+    (found-false f)
 
 pub returns-in-Some-2-clause-clauses : goal.returns-in-Some-2-clause-clauses
 returns-in-Some-2-clause-clauses c = clauses-still (goal.at.returns-in-Some-2-clause-clauses c).After-put
@@ -95,13 +98,17 @@ pub returns-in-Some-2-clause-grown : goal.returns-in-Some-2-clause-grown
 returns-in-Some-2-clause-grown c = grown-still (goal.at.returns-in-Some-2-clause-grown c).After-put
 
 pub returns-in-Some-2-clause-ends : goal.returns-in-Some-2-clause-ends
-returns-in-Some-2-clause-ends c = (
-  c.loop-self.invariant.quiet,
-  refl,
-  false-at c.walk-found.new.arena.clauses c.walk-found.new.trail c.in-Some-2.place (found-there c) (found-false c),
-  false-derives c.walk-found.new.arena.clauses c.walk-found.new.trail c.put.new.self c.loop-self.self-inside.head []
-      c.in-Some-2.place (stopped (goal.at.returns-in-Some-2-clause-ends c).After-put) (found-there c) (found-false c),
-)
+returns-in-Some-2-clause-ends c =
+    let k = c.walk-found.new.arena.clauses in
+    let t = c.walk-found.new.trail in
+    let p = (goal.at.returns-in-Some-2-clause-ends c).After-put in
+    let f = (goal.at.returns-in-Some-2-clause-ends c).In-Some-2 in (
+      c.loop-self.invariant.quiet,
+      refl,
+      false-at k t c.in-Some-2.place (found-there f) (found-false f),
+      false-derives k t c.put.new.self c.loop-self.self-inside.head [] c.in-Some-2.place (stopped p) (found-there f)
+          (found-false f),
+    )
 
 pub loop-self-preserved : goal.loop-self-preserved
 loop-self-preserved c =
@@ -128,7 +135,7 @@ invariant_of-self-2 c =
     let s = c.loop-self.self-inside in
     let i = c.loop-self.invariant in
     kept-quiet s.arena.clauses s.trail s.watches s.places s.head s.broken.items s.conflict
-    (subst (IsReady s.arena.clauses s.trail s.watches s.head) (sym i.none) i.ready) i.indexed (ended c) i.none
+    (subst (IsReady s.arena.clauses s.trail s.watches s.head) (sym i.none) i.ready) i.indexed (ended (goal.at.invariant_of-self-2 c).After-loop-self) i.none
     i.conflict
 
 pub returns-clause-clauses : goal.returns-clause-clauses
@@ -144,4 +151,4 @@ pub returns-clause-ends : goal.returns-clause-ends
 returns-clause-ends c =
     let s = c.loop-self.self-inside in
     let i = c.loop-self.invariant in
-    (refl, i.conflict, ready-closed s.arena.clauses s.trail s.watches s.head i.ready (ended c))
+    (refl, i.conflict, ready-closed s.arena.clauses s.trail s.watches s.head i.ready (ended (goal.at.returns-clause-ends c).After-loop-self))

@@ -10,10 +10,10 @@ use Rattle.gr_prop.specs.BaseChanges.{IsGrown}
 use Rattle.gr_prop.specs.Watching.{lits_at, AllFalse, IsReady, IsIndexed}
 use Rattle.gr_prop.proofs.Rounds.{lit-at, round-stops}
 use Rattle.gr_prop.proofs.Keeping.{grown-on, first-broken}
-use Rattle.gr_prop.proofs.bases.Base.propagate.Goals.{After-self-in-Some-1, After-negate-gone, After-put, After-self-in-Some-2-1, After-self-3-1}
+use Rattle.gr_prop.proofs.bases.Base.propagate.Goals.{In-Some, After-negate-gone, After-put, In-Some-2, After-loop-self}
 
 -- the first clause that was false when it came in is false
-pub broken : (c : After-self-in-Some-1) → IsSome (finite.get c.self.inside.arena.clauses c.in-Some.place.0)
+pub broken : (c : In-Some) → IsSome (finite.get c.self.inside.arena.clauses c.in-Some.place.0)
     × AllFalse c.self.inside.trail.assigned (lits_at c.self.inside.arena.clauses c.in-Some.place.0)
 broken c = c.self.invariant.ready.broken'.false' c.in-Some.place.0
     (first-broken c.self.inside.broken.items c.in-Some.place (sym (c.copied.ensures ∙ c.first.ensures.value ∙ ap
@@ -63,15 +63,15 @@ grown-still c = grown-on _ c.loop-self.self-inside.trail _ c.loop-self.invariant
     c.walk-found.ensures.progress.grown
 
 -- the clause that the walk ended at is false
-pub found-there : (c : After-self-in-Some-2-1) → IsSome
+pub found-there : (c : In-Some-2) → IsSome
     (finite.get c.walk-found.new.arena.clauses c.in-Some-2.place.0)
 found-there c = rw c.in-Some-2.is at c.in_ok-place.ensures.there
 
-pub found-false : (c : After-self-in-Some-2-1) → AllFalse c.walk-found.new.trail.assigned
+pub found-false : (c : In-Some-2) → AllFalse c.walk-found.new.trail.assigned
     (lits_at c.walk-found.new.arena.clauses c.in-Some-2.place.0)
 found-false c = rw c.in-Some-2.is at c.in_ok-place.ensures.falsified
 
 -- nothing is left in the queue
-pub ended : (c : After-self-3-1) → length c.loop-self.self-inside.trail.assigned ≤ c.loop-self.self-inside.head
+pub ended : (c : After-loop-self) → length c.loop-self.self-inside.trail.assigned ≤ c.loop-self.self-inside.head
 ended c = subst (λ n. n ≤ c.loop-self.self-inside.head) (ap length c.lits.ensures.lits
     ∙ length-map c.loop-self.self-inside.trail.assigned (λ x. x.lit)) c.loop-self-test.false
