@@ -1,14 +1,12 @@
 -- literals that are not false come to a clause's front
-use Rattle.std.proofs.Common.{◌≡◌, ◌≢◌, ◌⊎◌, ℕ, ◌+◌, ◌-◌, ◌*◌, ◌<◌, ◌≤◌, Bool, true, false, not, ◌&&◌, ◌||◌, All, List, [], ◌∷◌, ◌++◌, Option, Some, None, IsSome, get_or, set, take, length, refl, sym, ap, ◌∙◌, subst, inl, inr, arith, nat_eq, zero, suc}
-use Rattle.std.specs.List.{swap, list_any, swap_remove}
+use Rattle.std.proofs.Common.{◌≡◌, ◌≢◌, ℕ, ◌*◌, ◌<◌, ◌≤◌, true, false, ◌||◌, List, [], ◌∷◌, ◌++◌, get_or, set, take, length, refl, sym, ap, ◌∙◌, arith, nat_eq}
+use Rattle.std.specs.List.{swap, swap_remove}
 use Rattle.std.specs.List.Sorted.{IsPermutation}
 use Rattle.std.proofs.lemmas.Bool.Decides.{nat_tests}
-use Rattle.std.proofs.lemmas.List.{take-set, take-take, get_or-set_same, get_or-set_other, length-set, get_or_default, set-set, take_all, take-append-le}
-use Rattle.std.proofs.lemmas.List.Edits.{swap_is, length-swap}
-use Rattle.std.proofs.lemmas.List.Folds.{list_any_more}
+use Rattle.std.proofs.lemmas.List.{take-set, take-take, get_or-set_same, get_or-set_other, length-set, set-set, take_all, take-append-le}
+use Rattle.std.proofs.lemmas.List.Edits.{swap_is}
 use Rattle.std.proofs.lemmas.List.Sorted.{list_any-IsPermutation, IsPermutation-swap_remove}
 use Rattle.gr_logic.specs.Literals.{Literal, negation, same_literal}
-use Rattle.gr_logic.specs.Rup.{members}
 use Rattle.gr_logic.specs.declared.places.Place.{Place}
 use Rattle.gr_trail.specs.Trails.{Assigned, true_in}
 use Rattle.gr_prop.specs.Watching.{AllFalse, is_in}

@@ -1,33 +1,32 @@
 -- a clause comes in, as the call has it
-use Rattle.std.proofs.Common.{◌≡◌, ◌≢◌, ◌⊎◌, ℕ, ◌+◌, ◌*◌, ◌<◌, ◌≤◌, Bool, true, false, ◌||◌, All, List, [], ◌∷◌, ◌++◌, Option, Some, None, IsSome, length, refl, sym, ap, ◌∙◌, subst, inl, inr, arith, nat_eq, zero, suc}
+use Rattle.std.proofs.Common.{◌≡◌, ◌≢◌, ◌⊎◌, ℕ, ◌<◌, ◌≤◌, Bool, true, false, ◌||◌, All, List, [], ◌∷◌, ◌++◌, Option, Some, None, refl, sym, ap, ◌∙◌, subst, inl, inr, arith, nat_eq, zero, suc}
 use Rattle.std.proofs.lemmas.Bool.Decides.{nat_tests}
 use Rattle.std.proofs.lemmas.List.Elements.{All-head, All-tail}
 use Rattle.std.specs.Option.{option_map, unwrap_or}
 use Rattle.std.specs.Ordering.{nat_cmp}
 use Rattle.std.specs.FinMap as finite
-use Rattle.std.specs.FinSet as set
 use Rattle.gr_logic.specs.Literals.{Literal, negation, same_literal}
 use Rattle.gr_logic.specs.NormalForms.{IsNormal}
 use Rattle.gr_logic.specs.Rup.{members}
 use Rattle.gr_logic.specs.Closure.{Forces}
 use Rattle.gr_logic.specs.declared.places.Place.{Place}
 use Rattle.gr_logic.proofs.Sound.{same_literal-is}
-use Rattle.gr_arena.specs.Arenas.{Stored, no_clause}
+use Rattle.gr_arena.specs.Arenas.{Stored}
 use Rattle.gr_trail.specs.Trails.{Assigned, TrailState, true_in, value_in}
 use Rattle.gr_watch.specs.WatchLists.{WatchLists}
 use Rattle.gr_prop.specs.Bases.{BaseClause, BaseState, Clauses, base_clause, clauses_in, HasIdAt, LacksId}
 use Rattle.gr_prop.specs.BaseChanges.{with_forced, IsLearnt, IsAddable, IsAdded}
 use Rattle.gr_prop.specs.Watching.{Store, lits_at, occurs, AllFalse, IsReady, IsIndexed, IsKeptBase}
-use Rattle.gr_prop.specs.Visits.{IsReordered, OthersFalse}
+use Rattle.gr_prop.specs.Visits.{IsReordered}
 use Rattle.gr_prop.specs.Additions.{IsArranged, watching_too, StandsAs}
 use Rattle.gr_prop.specs.declared.additions.Standing.{Standing}
-use Rattle.gr_prop.specs.declared.additions.Standing.TheVariants.{Broken, Forced, Rests}
+use Rattle.gr_prop.specs.declared.additions.Standing.TheVariants.{Forced, Rests}
 use Rattle.gr_prop.proofs.TrailSets.{open-false, false-value}
 use Rattle.gr_prop.proofs.Stores.{by_place, get-insert-same, get-insert-other, get-remove-same, get-remove-other, same-map, lits-insert, get-clauses_in}
 use Rattle.gr_prop.proofs.Facts.{normal-distinct}
 use Rattle.gr_prop.proofs.Keeping.{kept-open}
-use Rattle.gr_prop.proofs.Adding.{ready-rests, ready-broken, ready-forced, clause-known, clause-distinct, clause-members, clauses-added}
-use Rattle.gr_prop.proofs.Forcing.{forces-forced, forced-only, rests-forces, stands-false}
+use Rattle.gr_prop.proofs.Adding.{ready-rests, ready-broken, ready-forced, clause-distinct, clause-members, clauses-added}
+use Rattle.gr_prop.proofs.Forcing.{forces-forced, rests-forces, stands-false}
 
 -- ---- ids
 module _ (k : Clauses) (places : finite.FinMap _ Place) (place : Place) (b : BaseClause) (indexed : IsIndexed k places)

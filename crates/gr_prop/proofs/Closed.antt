@@ -1,14 +1,14 @@
 -- a trail of forced literals is part of the closure, and all of it where it is closed
-use Rattle.std.proofs.Common.{◌≡◌, ◌↔◌, ◌⊎◌, ℕ, Bool, true, false, not, ◌||◌, List, [], ◌∷◌, ◌++◌, map, Option, Some, None, refl, sym, ap, ◌∙◌, subst, inl, inr, nat_le, is_none, if◌then◌else◌, arith, ◌<◌, ◌≤◌}
-use Rattle.std.specs.List.{list_any, filter}
+use Rattle.std.proofs.Common.{◌≡◌, ℕ, Bool, true, false, ◌||◌, List, [], ◌∷◌, ◌++◌, map, Option, Some, None, refl, sym, ap, ◌∙◌, subst, inl, inr, nat_le, is_none, if◌then◌else◌, arith, ◌<◌}
+use Rattle.std.specs.List.{filter}
 use Rattle.gr_logic.specs.Literals.{Literal, negation, same_literal}
 use Rattle.gr_logic.specs.Rup.{LiteralSet, members, with_literal}
-use Rattle.gr_logic.specs.Closure.{ClauseFamily, IsWithin, Forces, IsClosedUnder, InClosure, DerivesConflict, no_literals}
+use Rattle.gr_logic.specs.Closure.{ClauseFamily, IsWithin, IsClosedUnder, InClosure, DerivesConflict, no_literals}
 use Rattle.gr_logic.specs.declared.places.Place.{Place}
 use Rattle.gr_logic.proofs.Sound.{same_literal-is}
 use Rattle.gr_logic.proofs.SameLiteral.{same_literal-itself, members-first, or-true}
 use Rattle.gr_logic.proofs.Closures.{Forces-within}
-use Rattle.gr_trail.specs.Trails.{Assigned, TrailState, true_in, up_to, Climbs}
+use Rattle.gr_trail.specs.Trails.{Assigned, true_in, up_to, Climbs}
 use Rattle.gr_prop.specs.Bases.{decisions, IsFoundedBy, AreFounded, IsUnitClosure}
 use Rattle.gr_prop.specs.Watching.{IsConsistent}
 use Rattle.gr_prop.proofs.TrailSets.{none-up_to, or-none}

@@ -1,23 +1,22 @@
 -- counting places in lists of watches
-use Rattle.std.proofs.Common.{◌≡◌, ◌≢◌, ◌⊎◌, ℕ, ◌+◌, ◌-◌, ◌*◌, ◌<◌, ◌≤◌, Bool, true, false, All, List, [], ◌∷◌, ◌++◌, Option, Some, None, IsSome, get_or, set, take, length, refl, sym, ap, ◌∙◌, subst, inl, inr, arith, nat_eq, zero, suc, if◌then◌else◌}
+use Rattle.std.proofs.Common.{◌≡◌, ◌≢◌, ◌⊎◌, ℕ, ◌+◌, ◌-◌, ◌*◌, ◌<◌, ◌≤◌, true, false, All, List, [], ◌∷◌, ◌++◌, Some, None, IsSome, get_or, set, take, length, refl, sym, ap, ◌∙◌, subst, inl, inr, arith, nat_eq, if◌then◌else◌}
 use Rattle.std.proofs.lemmas.Bool.Decides.{nat_tests}
-use Rattle.std.proofs.lemmas.List.{get_or-set_same, get_or-set_other, length-set, take-set, take-take}
+use Rattle.std.proofs.lemmas.List.{get_or-set_same, length-set, take-set, take-take}
 use Rattle.std.proofs.lemmas.List.Sums.{get_or-le-sum_by, sum_by-swap_remove, sum_by_push, sum_by_more, sum_by-set}
-use Rattle.std.proofs.lemmas.List.Elements.{All-push, All-set, All-tail, All-weaker}
+use Rattle.std.proofs.lemmas.List.Elements.{All-push, All-tail, All-weaker}
 use Rattle.std.proofs.lemmas.List.Sorted.{All-permutation, IsPermutation-swap_remove}
-use Rattle.std.specs.List.{sum_by, swap_remove}
+use Rattle.std.specs.List.{swap_remove}
 use Rattle.std.specs.Option.{unwrap_or}
 use Rattle.std.specs.FinMap as finite
-use Rattle.gr_logic.specs.Literals.{Literal, negation, same_literal}
-use Rattle.gr_logic.specs.Codes.{code_of, literal_of, literal_of-code_of}
-use Rattle.gr_logic.specs.Rup.{members}
+use Rattle.gr_logic.specs.Literals.{Literal, same_literal}
+use Rattle.gr_logic.specs.Codes.{code_of}
 use Rattle.gr_logic.proofs.Sound.{same_literal-is}
 use Rattle.gr_logic.proofs.SameLiteral.{same_literal-itself}
 use Rattle.gr_arena.specs.Arenas.{no_clause}
 use Rattle.gr_watch.specs.declared.lists.Watch.{Watch}
 use Rattle.gr_watch.specs.WatchLists.{WatchLists, list_of, with_list}
 use Rattle.gr_watch.proofs.Edits.{other_list}
-use Rattle.gr_prop.specs.Watching.{Store, stored_at, lits_at, bit, count_in, watched, IsWatching, IsBlocked, AreBlocked}
+use Rattle.gr_prop.specs.Watching.{Store, lits_at, bit, count_in, watched, IsWatching, IsBlocked, AreBlocked}
 use Rattle.gr_prop.specs.Visits.{IsWatchedIn, IsReordered, IsTurned}
 use Rattle.gr_prop.specs.Additions.{attached}
 use Rattle.gr_prop.proofs.Stores.{by_place, lits-other, reordered-members}

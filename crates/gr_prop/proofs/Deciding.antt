@@ -1,25 +1,24 @@
 -- a base that starts, opens a level or goes back
-use Rattle.std.proofs.Common.{◌≡◌, ◌≢◌, ◌⊎◌, ℕ, ◌+◌, ◌*◌, ◌≤◌, ◌<◌, Bool, true, false, All, List, [], ◌∷◌, ◌++◌, replicate, Option, Some, None, IsSome, length, take, drop, get_or, zero, suc, refl, sym, ap, ◌∙◌, subst, arith, inl, inr}
+use Rattle.std.proofs.Common.{◌≡◌, ℕ, ◌+◌, ◌*◌, ◌≤◌, ◌<◌, false, All, List, [], ◌∷◌, ◌++◌, replicate, None, IsSome, length, take, drop, get_or, zero, suc, refl, sym, ap, ◌∙◌, subst, arith}
 use Rattle.std.proofs.lemmas.List.{length-append, length-replicate, take-append-le, drop_at}
 use Rattle.std.proofs.lemmas.List.Elements.{All-nil}
 use Rattle.std.specs.Option.{unwrap_or, option_map}
 use Rattle.std.specs.FinMap as finite
-use Rattle.gr_logic.specs.Literals.{Literal, negation}
+use Rattle.gr_logic.specs.Literals.{Literal}
 use Rattle.gr_logic.specs.Codes.{code_of}
 use Rattle.gr_logic.specs.declared.places.Place.{Place}
-use Rattle.gr_trail.specs.Trails.{Assigned, TrailState, true_in, value_in, up_to}
-use Rattle.gr_watch.specs.declared.lists.Watch.{Watch}
+use Rattle.gr_trail.specs.Trails.{Assigned, TrailState, value_in}
 use Rattle.gr_watch.specs.WatchLists.{WatchLists, list_of}
 use Rattle.gr_arena.specs.Arenas.{Stored, no_clause}
 use Rattle.gr_prop.specs.Bases.{BaseClause, base_clause, clauses_in}
-use Rattle.gr_prop.specs.BaseChanges.{with_decision, back_to}
+use Rattle.gr_prop.specs.BaseChanges.{with_decision}
 use Rattle.std.specs.Ordering.{nat_cmp}
-use Rattle.gr_prop.specs.Watching.{Store, lits_at, count_in, watched, occurs, IsBlocked, Guards, AreAt, AreBroken, IsSound, IsReady, IsIndexed, IsKeptBase}
+use Rattle.gr_prop.specs.Watching.{Store, lits_at, count_in, watched, occurs, IsBlocked, Guards, AreAt, AreBroken, IsReady, IsIndexed, IsKeptBase}
 use Rattle.gr_prop.proofs.TrailSets.{open-false}
 use Rattle.gr_prop.proofs.Kept.{guarded-more}
 use Rattle.gr_prop.proofs.Stores.{get-clauses_in, same-map}
 use Rattle.gr_prop.proofs.Sound.{sound-decided}
-use Rattle.gr_prop.proofs.Rounds.{none-broken, ready-back}
+use Rattle.gr_prop.proofs.Rounds.{none-broken}
 use Rattle.gr_prop.proofs.Keeping.{kept-open}
 
 -- a decision opens a level, where all was propagated

@@ -1,12 +1,11 @@
 -- how a visit ends
-use Rattle.std.proofs.Common.{◌≡◌, ◌≢◌, ◌⊎◌, ℕ, ◌+◌, ◌<◌, ◌≤◌, Bool, true, false, not, ◌&&◌, ◌||◌, List, [], ◌∷◌, Option, Some, None, IsSome, get_or, set, length, refl, sym, ap, ◌∙◌, subst, inl, inr, arith, nat_eq, ◌==◌, zero, suc}
+use Rattle.std.proofs.Common.{◌≡◌, ◌≢◌, ℕ, ◌<◌, ◌≤◌, true, false, ◌||◌, List, [], ◌∷◌, get_or, set, length, refl, sym, ap, ◌∙◌, subst, inl, inr, arith, ◌==◌, zero, suc}
 use Rattle.std.specs.List.{swap}
 use Rattle.std.proofs.lemmas.Bool.Decides.{nat_tests}
 use Rattle.gr_logic.specs.Literals.{Literal, negation, same_literal}
 use Rattle.gr_logic.specs.Codes.{code_of, literal_of, literal_of-code_of}
 use Rattle.gr_logic.specs.Rup.{members}
 use Rattle.gr_logic.proofs.Sound.{same_literal-is}
-use Rattle.gr_logic.proofs.SameLiteral.{same_literal-itself}
 use Rattle.gr_trail.specs.Trails.{Assigned, true_in}
 use Rattle.gr_prop.specs.Watching.{AllFalse}
 use Rattle.gr_prop.specs.Visits.{OthersFalse, IsWatchedIn, IsTurned}

@@ -1,27 +1,25 @@
 -- what is true of every base
-use Rattle.std.proofs.Common.{◌≡◌, ◌≢◌, ◌⊎◌, ◌↔◌, ℕ, ◌+◌, ◌-◌, ◌*◌, ◌<◌, ◌≤◌, Bool, true, false, not, ◌&&◌, ◌||◌, All, List, [], ◌∷◌, ◌++◌, Option, Some, None, IsSome, get_or, take, drop, length, refl, sym, ap, ◌∙◌, subst, inl, inr, arith, nat_eq, nat_le, zero, suc, if◌then◌else◌, cond}
-use Rattle.std.specs.List.{list_any, sum_by, find}
+use Rattle.std.proofs.Common.{◌≡◌, ◌⊎◌, ℕ, ◌+◌, ◌-◌, ◌<◌, ◌≤◌, Bool, true, false, not, ◌&&◌, ◌||◌, List, [], ◌∷◌, Option, Some, IsSome, take, refl, sym, ap, ◌∙◌, subst, inl, inr, arith, nat_eq, nat_le, if◌then◌else◌, cond}
+use Rattle.std.specs.List.{find}
 use Rattle.std.specs.Option.{option_map, unwrap_or}
 use Rattle.std.proofs.lemmas.Bool.Decides.{nat_tests}
-use Rattle.std.proofs.lemmas.List.Elements.{All-head, All-tail}
 use Rattle.std.proofs.lemmas.List.Sums.{sum_by-cons}
 use Rattle.std.specs.FinMap as finite
 use Rattle.gr_logic.specs.Literals.{Literal, negation, same_literal, same_sign, var_of}
 use Rattle.gr_logic.specs.NormalForms.{IsNormal}
 use Rattle.gr_logic.specs.Rup.{LiteralSet, members}
-use Rattle.gr_logic.specs.Closure.{ClauseFamily, DerivesConflict, no_literals}
+use Rattle.gr_logic.specs.Closure.{DerivesConflict, no_literals}
 use Rattle.gr_logic.specs.declared.places.Place.{Place}
 use Rattle.gr_logic.proofs.Sound.{same_literal-is}
-use Rattle.gr_logic.proofs.SameLiteral.{same_literal-itself, negation-negation, members-first, members-later, or-true}
-use Rattle.gr_arena.specs.Arenas.{Stored, no_clause}
+use Rattle.gr_logic.proofs.SameLiteral.{members-first, members-later}
 use Rattle.gr_trail.specs.Trails.{Assigned, TrailState, true_in, up_to, assigned_to, Climbs}
 use Rattle.gr_trail.proofs.Levels.{climbs-le}
 use Rattle.gr_watch.specs.WatchLists.{WatchLists}
-use Rattle.gr_prop.specs.Bases.{BaseClause, BaseState, clauses_in, family, decisions, IsUnitClosure, IsFalseAt, HasLiteralAt, IsBase, HasIdAt, LacksId}
-use Rattle.gr_prop.specs.Watching.{Store, stored_at, lits_at, bit, occurs, AllFalse, IsConsistent, IsReady, IsIndexed, IsSettledBy, IsKeptBase}
+use Rattle.gr_prop.specs.Bases.{clauses_in, family, decisions, IsBase}
+use Rattle.gr_prop.specs.Watching.{Store, lits_at, bit, occurs, AllFalse, IsReady, IsKeptBase}
 use Rattle.gr_prop.proofs.TrailSets.{or-first, or-second, decisions-up_to}
 use Rattle.gr_prop.proofs.Closed.{falsified-derives, founded-up_to}
-use Rattle.gr_prop.proofs.Stores.{family-there, some-is}
+use Rattle.gr_prop.proofs.Stores.{family-there}
 use Rattle.gr_prop.proofs.Rounds.{levels-closed}
 
 -- the level of a literal that is true, but not at this level or below

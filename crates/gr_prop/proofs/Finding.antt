@@ -1,10 +1,10 @@
 -- ids and the places they lead to
-use Rattle.std.proofs.Common.{◌≡◌, ◌≢◌, ℕ, Bool, true, false, Option, Some, None, refl, sym, ap, ◌∙◌, subst, nat_eq, List, IsSome, Result, Ok, Err}
+use Rattle.std.proofs.Common.{◌≡◌, ℕ, Option, Some, None, refl, sym, ap, List, IsSome, Result, Ok, Err}
 use Rattle.std.specs.Option.{IfSome, IfNone, is_some}
 use Rattle.std.specs.Result.{IfOk}
 use Rattle.std.specs.FinMap as finite
 use Rattle.gr_logic.specs.declared.places.Place.{Place}
-use Rattle.gr_prop.specs.Bases.{BaseClause, Clauses, HasIdAt, HasId, LacksId}
+use Rattle.gr_prop.specs.Bases.{Clauses, HasIdAt, HasId, LacksId}
 use Rattle.gr_prop.specs.BaseChanges.{AreIdsOf}
 use Rattle.gr_prop.specs.Ascending.{AreKeysOf}
 use Rattle.gr_prop.specs.Watching.{IsIndexed}

@@ -1,5 +1,5 @@
 -- ids in order
-use Rattle.std.proofs.Common.{◌≡◌, ◌≢◌, ◌↔◌, ◌⊎◌, ℕ, ◌+◌, ◌<◌, ◌≤◌, Bool, true, false, cond, List, [], ◌∷◌, map, Option, Some, None, IsSome, length, get_or, nat_eq, zero, suc, refl, sym, ap, ◌∙◌, subst, arith, AllPairs, Contains, IsPermutation, nat_cmp, Result, Ok, Err}
+use Rattle.std.proofs.Common.{◌≡◌, ℕ, ◌+◌, Bool, true, false, cond, List, [], ◌∷◌, Some, IsSome, nat_eq, zero, suc, refl, sym, ap, subst, arith, Contains, IsPermutation, nat_cmp, Result, Ok, Err}
 use Rattle.std.specs.Map.{lookup, keys_of}
 use Rattle.std.specs.Option.{is_some}
 use Rattle.std.specs.Result.{IfOk}

@@ -1,5 +1,5 @@
 -- what a base keeps, from what a call left
-use Rattle.std.proofs.Common.{◌≡◌, ◌≢◌, ℕ, ◌+◌, ◌≤◌, ◌<◌, Bool, true, false, ◌||◌, nat_eq, All, List, [], ◌∷◌, ◌++◌, Option, Some, None, IsSome, length, take, refl, sym, ap, ◌∙◌, subst, arith}
+use Rattle.std.proofs.Common.{◌≡◌, ℕ, ◌≤◌, Bool, true, false, ◌||◌, nat_eq, All, List, [], ◌∷◌, ◌++◌, Option, Some, None, IsSome, length, refl, ap, ◌∙◌, subst, arith}
 use Rattle.std.proofs.lemmas.List.{append_assoc}
 use Rattle.std.proofs.lemmas.List.Elements.{All-append}
 use Rattle.std.specs.Option.{unwrap_or}
@@ -9,11 +9,11 @@ use Rattle.std.specs.FinMap as finite
 use Rattle.gr_logic.specs.Closure.{DerivesConflict}
 use Rattle.gr_logic.specs.Rup.{members}
 use Rattle.gr_logic.specs.declared.places.Place.{Place}
-use Rattle.gr_trail.specs.Trails.{Assigned, TrailState}
+use Rattle.gr_trail.specs.Trails.{TrailState}
 use Rattle.gr_watch.specs.WatchLists.{WatchLists}
 use Rattle.gr_prop.specs.Bases.{clauses_in, family, decisions, IsFalseAt}
 use Rattle.gr_prop.specs.BaseChanges.{IsGrown, IsForcedAt}
-use Rattle.gr_prop.specs.Watching.{Store, lits_at, AllFalse, IsReady, IsIndexed, IsSettledBy, IsKeptBase, is_in}
+use Rattle.gr_prop.specs.Watching.{Store, lits_at, AllFalse, IsReady, IsIndexed, IsKeptBase, is_in}
 use Rattle.gr_prop.proofs.Closed.{falsified-derives}
 use Rattle.gr_prop.proofs.Stores.{family-there}
 use Rattle.gr_prop.proofs.Rounds.{grown-decisions}

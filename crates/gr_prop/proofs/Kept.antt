@@ -1,18 +1,18 @@
 -- what guards a clause against a false watch
-use Rattle.std.proofs.Common.{◌≡◌, ◌≢◌, ℕ, ◌+◌, ◌≤◌, ◌<◌, Bool, true, false, not, ◌||◌, ◌&&◌, List, [], ◌∷◌, ◌++◌, take, length, refl, sym, ap, ◌∙◌, subst, arith, nat_eq, nat_le, if◌then◌else◌}
-use Rattle.std.specs.List.{list_any, sum_by}
+use Rattle.std.proofs.Common.{◌≡◌, ℕ, ◌+◌, ◌≤◌, Bool, true, false, ◌||◌, List, [], ◌∷◌, ◌++◌, refl, sym, ap, ◌∙◌, subst, arith, nat_eq, nat_le, if◌then◌else◌}
+use Rattle.std.specs.List.{list_any}
 use Rattle.std.specs.List.Sorted.{IsPermutation}
 use Rattle.std.proofs.lemmas.Bool.Decides.{nat_tests}
 use Rattle.std.proofs.lemmas.List.Sorted.{list_any-IsPermutation}
 use Rattle.std.proofs.lemmas.List.Sums.{sum_by-cons}
 use Rattle.gr_logic.specs.Literals.{Literal, negation, same_literal}
 use Rattle.gr_logic.specs.Rup.{members}
-use Rattle.gr_logic.specs.Closure.{IsWithin, Forces}
+use Rattle.gr_logic.specs.Closure.{Forces}
 use Rattle.gr_logic.proofs.Sound.{same_literal-is}
-use Rattle.gr_logic.proofs.SameLiteral.{same_literal-itself, same_literal-sym, negation-negation, members-first, members-later, or-true}
-use Rattle.gr_trail.specs.Trails.{Assigned, true_in, up_to, Climbs}
-use Rattle.gr_prop.specs.Watching.{true_by, IsKept, IsGuarded, IsConsistent, AllFalse, occurs, bit}
-use Rattle.gr_prop.proofs.TrailSets.{true_by-true, true_by-up_to, true_by-more, true_by-depth, or-first, or-second}
+use Rattle.gr_logic.proofs.SameLiteral.{members-first, members-later, or-true}
+use Rattle.gr_trail.specs.Trails.{Assigned, true_in, up_to}
+use Rattle.gr_prop.specs.Watching.{true_by, IsKept, IsGuarded, IsConsistent, occurs, bit}
+use Rattle.gr_prop.proofs.TrailSets.{true_by-true, true_by-up_to, true_by-more, or-first, or-second}
 
 -- a test that some literal passes, weakened
 pub any-weaker : (p q : Literal → Bool) (c : List Literal) → ((l : Literal) → p l ≡ true → q l ≡ true)

@@ -1,5 +1,5 @@
 -- what other reasons leave as it was
-use Rattle.std.proofs.Common.{◌≡◌, ℕ, ◌+◌, ◌<◌, ◌≤◌, Bool, true, false, ◌&&◌, ◌||◌, List, [], ◌∷◌, map, take, drop, zero, suc, refl, sym, ap, ◌∙◌, subst, nat_le}
+use Rattle.std.proofs.Common.{◌≡◌, ℕ, ◌<◌, ◌&&◌, ◌||◌, List, [], ◌∷◌, map, take, drop, zero, suc, refl, sym, ap, ◌∙◌, subst, nat_le}
 use Rattle.std.specs.List.{list_any}
 use Rattle.gr_logic.specs.Literals.{Literal, negation, same_literal}
 use Rattle.gr_trail.specs.Trails.{Assigned, true_in}

@@ -1,5 +1,5 @@
 -- the loops that put new places in
-use Rattle.std.proofs.Common.{◌≡◌, ◌≢◌, ℕ, ◌+◌, ◌*◌, ◌<◌, ◌≤◌, Bool, true, false, ◌||◌, All, AllPairs, Contains, ◌↔◌, List, [], ◌∷◌, ◌++◌, map, Option, Some, None, IsSome, get_or, set, take, drop, length, nat_eq, zero, suc, refl, sym, ap, ◌∙◌, subst, arith, cond, if◌then◌else◌}
+use Rattle.std.proofs.Common.{◌≡◌, ◌≢◌, ℕ, ◌+◌, ◌<◌, ◌≤◌, Bool, true, false, ◌||◌, AllPairs, Contains, ◌↔◌, List, [], ◌∷◌, ◌++◌, map, Option, Some, None, IsSome, get_or, set, take, drop, length, nat_eq, zero, suc, refl, sym, ap, ◌∙◌, subst, arith, cond, if◌then◌else◌}
 use Rattle.std.proofs.lemmas.Bool.Decides.{nat_tests}
 use Rattle.std.proofs.lemmas.List.{length-map, drop_more, set-get_or, get_or_default, get_or-append-add, length-take-le, take_all, drop_all, append-nil, length-append, length-drop, get_or_past, get_or-take}
 use Rattle.std.proofs.lemmas.List.Edits.{map_over_more}
@@ -11,11 +11,11 @@ use Rattle.std.specs.FinMap as finite
 use Rattle.gr_logic.specs.Literals.{Literal, var_of}
 use Rattle.gr_logic.specs.Codes.{code_of}
 use Rattle.gr_logic.specs.declared.places.Place.{Place}
-use Rattle.gr_trail.specs.Trails.{Assigned, TrailState, assigned_to, lits_of, reason_at, with_reason}
+use Rattle.gr_trail.specs.Trails.{Assigned, assigned_to, lits_of, with_reason}
 use Rattle.gr_watch.specs.declared.lists.Watch.{Watch}
 use Rattle.gr_watch.specs.WatchLists.{WatchLists, list_of}
 use Rattle.gr_prop.specs.BaseChanges.{moved_place, moved_assigned}
-use Rattle.gr_prop.specs.Compactions.{moved_watch, HasMovedReason}
+use Rattle.gr_prop.specs.Compactions.{moved_watch}
 use Rattle.gr_prop.proofs.Stores.{by_place, get-insert-same, get-insert-other}
 use Rattle.gr_prop.proofs.Rounds.{lit-at}
 

@@ -1,9 +1,8 @@
 -- a watch moves to another literal
-use Rattle.std.proofs.Common.{◌≡◌, ◌≢◌, ◌⊎◌, ℕ, ◌+◌, ◌-◌, ◌<◌, ◌≤◌, Bool, true, false, not, ◌&&◌, ◌||◌, All, List, [], ◌∷◌, ◌++◌, Option, Some, None, IsSome, get_or, set, take, length, refl, sym, ap, ◌∙◌, subst, inl, inr, arith, nat_eq, if◌then◌else◌}
+use Rattle.std.proofs.Common.{◌≡◌, ◌≢◌, ◌⊎◌, ℕ, ◌+◌, ◌<◌, Bool, true, false, All, List, [], ◌∷◌, ◌++◌, IsSome, get_or, length, refl, sym, ap, ◌∙◌, subst, inl, inr, arith, nat_eq, if◌then◌else◌}
 use Rattle.std.proofs.lemmas.Bool.Decides.{nat_tests}
-use Rattle.std.proofs.lemmas.List.{length-set}
 use Rattle.std.proofs.lemmas.List.Elements.{All-push}
-use Rattle.std.specs.List.{list_any, sum_by, swap_remove}
+use Rattle.std.specs.List.{swap_remove}
 use Rattle.std.specs.List.Sorted.{IsPermutation}
 use Rattle.std.specs.FinMap as finite
 use Rattle.gr_logic.specs.Literals.{Literal, negation, same_literal}
@@ -15,14 +14,13 @@ use Rattle.gr_logic.proofs.SameLiteral.{members-first}
 use Rattle.gr_trail.specs.Trails.{Assigned, TrailState, true_in}
 use Rattle.gr_watch.specs.declared.lists.Watch.{Watch}
 use Rattle.gr_watch.specs.WatchLists.{WatchLists, list_of, with_list}
-use Rattle.gr_prop.specs.Bases.{clauses_in}
-use Rattle.gr_prop.specs.Watching.{Store, lits_at, bit, count_in, watched, IsWatching, IsBlocked, AreBlocked, AreKnown, IsKept, IsGuarded, Guards, IsSound, is_in}
-use Rattle.gr_prop.specs.Visits.{IsWatchedIn, IsReordered, IsMoved}
+use Rattle.gr_prop.specs.Watching.{Store, lits_at, bit, count_in, watched, IsWatching, IsBlocked, AreBlocked, AreKnown, IsKept, IsGuarded, IsSound, is_in}
+use Rattle.gr_prop.specs.Visits.{IsMoved}
 use Rattle.gr_prop.specs.Walking.{IsWalking, AreVisited, IsProgress}
 use Rattle.gr_prop.specs.Additions.{attached}
 use Rattle.gr_prop.proofs.Kept.{kept-order, kept-none}
 use Rattle.gr_prop.proofs.Stores.{by_place, lits-other, there-other, reordered-clauses, reordered-distinct, reordered-known}
-use Rattle.gr_prop.proofs.Counts.{code-low, list-same, list-other, by_list, not-same, count-push, count-removed, front-removed, blocked-removed, blocked-reordered, attached-count, attached-length, attached-blocked}
+use Rattle.gr_prop.proofs.Counts.{code-low, list-same, list-other, by_list, not-same, count-removed, front-removed, blocked-removed, blocked-reordered, attached-count, attached-length}
 use Rattle.gr_prop.proofs.WalkSteps.{has-list, list-blocked, visited-on, visited-front, grown-itself}
 
 -- the lists after the move

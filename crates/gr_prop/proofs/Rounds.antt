@@ -1,14 +1,12 @@
 -- one round of propagation: a literal's list is taken out, walked and put back
-use Rattle.std.proofs.Common.{◌≡◌, ◌≢◌, ◌⊎◌, ◌↔◌, ℕ, ◌+◌, ◌-◌, ◌*◌, ◌<◌, ◌≤◌, Bool, true, false, not, ◌&&◌, ◌||◌, All, List, [], ◌∷◌, ◌++◌, Option, Some, None, IsSome, get_or, set, take, drop, length, map, refl, sym, ap, ◌∙◌, subst, inl, inr, arith, nat_eq, nat_le, is_none, zero, suc, if◌then◌else◌}
+use Rattle.std.proofs.Common.{◌≡◌, ℕ, ◌+◌, ◌-◌, ◌<◌, ◌≤◌, true, false, All, List, [], ◌∷◌, ◌++◌, Some, None, get_or, take, drop, length, map, refl, sym, ap, ◌∙◌, subst, inl, inr, arith, is_none, if◌then◌else◌}
 use Rattle.std.specs.List.{list_any, filter}
-use Rattle.std.proofs.lemmas.Bool.Decides.{nat_tests}
-use Rattle.std.proofs.lemmas.List.{append-nil, append_assoc, length-set, set-set, set-get_or, take_all, take_more, drop_more, get_or_append_left, take-append-le, take-append-drop, drop-append-le, length-append, length-map, map-append, get_or-map, get_or_default, drop_all, drop_at}
+use Rattle.std.proofs.lemmas.List.{length-set, set-set, set-get_or, take_all, take_more, drop_more, get_or_append_left, take-append-le, take-append-drop, drop-append-le, length-append, length-map, get_or-map, get_or_default, drop_all}
 use Rattle.std.proofs.lemmas.List.Elements.{All-head, All-tail}
-use Rattle.std.specs.FinMap as finite
 use Rattle.gr_logic.specs.Literals.{Literal, negation, same_literal}
 use Rattle.gr_logic.specs.Codes.{code_of}
-use Rattle.gr_logic.specs.Rup.{LiteralSet, members}
-use Rattle.gr_logic.specs.Closure.{ClauseFamily, IsWithin, Forces, IsClosedUnder, DerivesConflict, no_literals}
+use Rattle.gr_logic.specs.Rup.{members}
+use Rattle.gr_logic.specs.Closure.{Forces, IsClosedUnder, no_literals}
 use Rattle.gr_logic.specs.declared.places.Place.{Place}
 use Rattle.gr_logic.proofs.Sound.{same_literal-is}
 use Rattle.gr_logic.proofs.SameLiteral.{same_literal-itself, negation-negation, members-first}
@@ -16,14 +14,14 @@ use Rattle.gr_trail.specs.Trails.{Assigned, TrailState, true_in, up_to, lits_of,
 use Rattle.gr_watch.specs.declared.lists.Watch.{Watch}
 use Rattle.gr_watch.specs.WatchLists.{WatchLists, list_of, with_list}
 use Rattle.gr_prop.specs.Bases.{clauses_in, family, decisions, IsUnitClosure}
-use Rattle.gr_prop.specs.BaseChanges.{IsGrown, IsForcedAt, back_to, with_decision}
-use Rattle.gr_prop.specs.Watching.{Store, lits_at, bit, count_in, watched, IsWatching, AreBlocked, AllDistinct, AreKnown, IsKept, IsGuarded, Guards, IsSound, AreAt, AreBroken, AllFalse, IsReady, is_in, true_by}
+use Rattle.gr_prop.specs.BaseChanges.{IsForcedAt, back_to}
+use Rattle.gr_prop.specs.Watching.{Store, lits_at, bit, count_in, watched, IsWatching, AreBlocked, IsGuarded, Guards, AreAt, AreBroken, IsReady, true_by}
 use Rattle.gr_prop.specs.Walking.{IsWalking, AreVisited, IsProgress}
-use Rattle.gr_prop.proofs.TrailSets.{true_in-more, prefix-within, true-at, within-at, at-append, up_to-done, true_by-depth, decisions-up_to}
-use Rattle.gr_prop.proofs.Kept.{any-weaker, kept-next, guarded-closed, guarded-more, guarded-up_to}
-use Rattle.gr_prop.proofs.Closed.{closed-is, falsified-derives}
-use Rattle.gr_prop.proofs.Stores.{family-there, family-some}
-use Rattle.gr_prop.proofs.Sound.{sound-back, sound-decided}
+use Rattle.gr_prop.proofs.TrailSets.{prefix-within, true-at, within-at, at-append, up_to-done, true_by-depth, decisions-up_to}
+use Rattle.gr_prop.proofs.Kept.{any-weaker, kept-next, guarded-closed, guarded-up_to}
+use Rattle.gr_prop.proofs.Closed.{closed-is}
+use Rattle.gr_prop.proofs.Stores.{family-some}
+use Rattle.gr_prop.proofs.Sound.{sound-back}
 use Rattle.gr_prop.proofs.Counts.{list-same, code-low}
 
 -- with the list put back where it was, the lists are as they were

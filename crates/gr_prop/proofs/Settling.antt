@@ -1,28 +1,26 @@
 -- a literal of level zero gets a unit clause as its reason
-use Rattle.std.proofs.Common.{◌≡◌, ◌≢◌, ◌⊎◌, ℕ, ◌+◌, ◌-◌, ◌*◌, ◌<◌, ◌≤◌, Bool, true, false, not, ◌&&◌, ◌||◌, All, List, [], ◌∷◌, ◌++◌, map, Option, Some, None, IsSome, get_or, take, drop, length, refl, sym, ap, ◌∙◌, subst, inl, inr, arith, nat_eq, nat_le, zero, suc, if◌then◌else◌, cond}
+use Rattle.std.proofs.Common.{◌≡◌, ◌⊎◌, ℕ, ◌<◌, ◌≤◌, Bool, true, false, not, ◌&&◌, ◌||◌, All, List, [], ◌∷◌, Option, Some, None, IsSome, take, drop, refl, sym, ap, ◌∙◌, subst, inl, inr, arith, nat_eq, nat_le, zero, suc, if◌then◌else◌, cond}
 use Rattle.std.proofs.lemmas.Bool.Decides.{nat_tests}
 use Rattle.std.proofs.lemmas.List.{length-map}
 use Rattle.std.proofs.lemmas.List.Elements.{All-nil, All-cons, All-tail, All-weaker}
 use Rattle.std.specs.List.{list_any, find}
-use Rattle.std.specs.Option.{option_map, unwrap_or}
+use Rattle.std.specs.Option.{option_map}
 use Rattle.std.specs.FinMap as finite
-use Rattle.std.specs.FinSet as set
 use Rattle.gr_logic.specs.Literals.{Literal, negation, same_literal, same_sign, var_of}
 use Rattle.gr_logic.specs.Rup.{LiteralSet, members, with_literal}
 use Rattle.gr_logic.specs.Closure.{ClauseFamily, Forces, no_literals}
 use Rattle.gr_logic.specs.declared.places.Place.{Place}
 use Rattle.gr_logic.proofs.Sound.{same_literal-is}
-use Rattle.gr_logic.proofs.SameLiteral.{same_literal-itself, members-first, or-true}
-use Rattle.gr_arena.specs.Arenas.{Stored, no_clause}
-use Rattle.gr_trail.specs.Trails.{Assigned, TrailState, true_in, assigned_to, Climbs, reason_at, with_reason, level_after}
+use Rattle.gr_logic.proofs.SameLiteral.{members-first, or-true}
+use Rattle.gr_arena.specs.Arenas.{Stored}
+use Rattle.gr_trail.specs.Trails.{Assigned, TrailState, true_in, assigned_to, Climbs, reason_at, with_reason}
 use Rattle.gr_trail.proofs.Levels.{climbs-le, climbs-with_reason}
 use Rattle.gr_watch.specs.WatchLists.{WatchLists}
-use Rattle.gr_prop.specs.Bases.{BaseState, BaseClause, base_clause, clauses_in, family, IsFoundedBy, AreFounded, LacksId}
+use Rattle.gr_prop.specs.Bases.{base_clause, clauses_in, family, IsFoundedBy, AreFounded, LacksId}
 use Rattle.gr_prop.specs.BaseChanges.{IsSettled}
-use Rattle.gr_prop.specs.Watching.{Store, lits_at, occurs, true_by, IsKept, IsGuarded, Guards, IsConsistent, AreAt, AreWithin, AllFalse, AreBroken, IsSound, IsReady, IsIndexed, IsKeptBase}
+use Rattle.gr_prop.specs.Watching.{Store, lits_at, true_by, IsKept, IsGuarded, Guards, AreAt, AreWithin, AllFalse, IsSound, IsReady, IsIndexed, IsKeptBase}
 use Rattle.gr_prop.specs.Additions.{watching_too, StandsAs}
 use Rattle.gr_prop.specs.declared.additions.Standing.TheVariants.{Rests}
-use Rattle.gr_prop.specs.Visits.{IsReordered}
 use Rattle.gr_prop.proofs.Stores.{get-insert-same, lits-insert, reordered-itself, get-clauses_in, clauses-insert, family-there}
 use Rattle.gr_prop.proofs.Facts.{normal-distinct}
 use Rattle.gr_prop.proofs.Adding.{ready-rests}

@@ -1,12 +1,12 @@
 -- a trail over clauses stays one
-use Rattle.std.proofs.Common.{◌≡◌, ◌≢◌, ℕ, ◌+◌, ◌≤◌, ◌<◌, Bool, true, false, List, [], ◌∷◌, ◌++◌, Option, Some, None, refl, sym, ap, ◌∙◌, subst, arith}
-use Rattle.gr_logic.specs.Literals.{Literal, negation, same_literal}
-use Rattle.gr_logic.specs.Rup.{LiteralSet, members}
-use Rattle.gr_logic.specs.Closure.{ClauseFamily, Forces, no_literals}
+use Rattle.std.proofs.Common.{◌≡◌, ℕ, ◌+◌, ◌≤◌, ◌<◌, false, Some, None, refl, sym, ap, ◌∙◌, arith}
+use Rattle.gr_logic.specs.Literals.{Literal, negation}
+use Rattle.gr_logic.specs.Rup.{LiteralSet}
+use Rattle.gr_logic.specs.Closure.{Forces, no_literals}
 use Rattle.gr_logic.specs.declared.places.Place.{Place}
-use Rattle.gr_trail.specs.Trails.{Assigned, TrailState, true_in, value_in, up_to, Climbs}
+use Rattle.gr_trail.specs.Trails.{TrailState, true_in, up_to}
 use Rattle.gr_trail.proofs.Levels.{climbs-push, climbs-up_to, all_up_to}
-use Rattle.gr_prop.specs.Bases.{Clauses, family, AreFounded}
+use Rattle.gr_prop.specs.Bases.{Clauses, family}
 use Rattle.gr_prop.specs.BaseChanges.{with_forced, with_decision, back_to}
 use Rattle.gr_prop.specs.Watching.{IsSound}
 use Rattle.gr_prop.proofs.TrailSets.{consistent-push, consistent-up_to, within-push, within-up_to}

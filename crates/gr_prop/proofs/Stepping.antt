@@ -1,25 +1,22 @@
 -- a step of the walk, by the ending of its visit
-use Rattle.std.proofs.Common.{◌≡◌, ◌≢◌, ◌⊎◌, ℕ, ◌+◌, ◌-◌, ◌<◌, ◌≤◌, Bool, true, false, ◌||◌, All, List, [], ◌∷◌, ◌++◌, Option, Some, None, IsSome, get_or, set, take, length, refl, sym, ap, ◌∙◌, subst, inl, inr, arith}
+use Rattle.std.proofs.Common.{◌≡◌, ◌⊎◌, ℕ, ◌+◌, ◌-◌, ◌<◌, ◌≤◌, true, false, ◌||◌, All, List, [], ◌∷◌, Some, get_or, set, length, refl, sym, ap, ◌∙◌, subst, inl, inr, arith}
 use Rattle.std.proofs.lemmas.List.{length-set, take-set, get_or-set_same, length-take-le}
 use Rattle.std.proofs.lemmas.List.Elements.{All-tail, All-weaker}
 use Rattle.gr_logic.proofs.Sound.{same_literal-is}
-use Rattle.std.specs.List.{list_any, swap_remove}
-use Rattle.std.specs.FinMap as finite
+use Rattle.std.specs.List.{swap_remove}
 use Rattle.gr_logic.specs.Literals.{Literal, negation, same_literal}
 use Rattle.gr_logic.specs.Rup.{members}
-use Rattle.gr_logic.specs.declared.places.Place.{Place}
 use Rattle.gr_logic.proofs.SameLiteral.{members-first}
-use Rattle.gr_trail.specs.Trails.{Assigned, TrailState, true_in}
+use Rattle.gr_trail.specs.Trails.{TrailState, true_in}
 use Rattle.gr_watch.specs.declared.lists.Watch.{Watch}
-use Rattle.gr_watch.specs.WatchLists.{WatchLists, list_of, with_list}
+use Rattle.gr_watch.specs.WatchLists.{WatchLists}
 use Rattle.gr_prop.specs.BaseChanges.{with_forced}
 use Rattle.gr_prop.specs.Watching.{Store, lits_at, IsBlocked}
-use Rattle.gr_prop.specs.Visits.{IsReordered, IsTurned, OthersFalse, IsHeld, IsMoved, IsFailed, IsCut, Visited}
+use Rattle.gr_prop.specs.Visits.{IsReordered, IsTurned, OthersFalse, IsHeld, IsMoved, Visited}
 use Rattle.gr_prop.specs.Walking.{IsWalking, AreVisited, IsProgress}
 use Rattle.gr_prop.specs.declared.visits.Ending.{Ending}
-use Rattle.gr_prop.specs.declared.visits.Ending.TheVariants.{Stays, Moves, Fails}
 use Rattle.gr_prop.proofs.TrailSets.{true_in-more, true_in-last}
-use Rattle.gr_prop.proofs.WalkSteps.{list-blocked, walked-watched, walked-there, turned-walking, renewed-walking, forced-walking, visited-next, blocked-any, visited-blocked, visited-on, visited-front, turned-progress, forced-progress, progress-on}
+use Rattle.gr_prop.proofs.WalkSteps.{list-blocked, turned-walking, renewed-walking, forced-walking, visited-next, blocked-any, visited-blocked, visited-on, visited-front, turned-progress, forced-progress, progress-on}
 use Rattle.gr_prop.proofs.Moves.{moved-walking, moved-progress, moved-visited}
 
 length-removed : (list : List Watch) (i : ℕ) (w : Watch) → i < length list → i ≤ length (swap_remove list i w)

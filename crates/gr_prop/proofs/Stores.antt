@@ -1,5 +1,5 @@
 -- stores of clauses, and the clauses without the order of their literals
-use Rattle.std.proofs.Common.{◌≡◌, ◌≢◌, ◌⊎◌, ℕ, ◌+◌, ◌<◌, ◌≤◌, Bool, true, false, cond, not, ◌&&◌, ◌||◌, All, List, [], ◌∷◌, ◌++◌, map, Option, Some, None, IsSome, get_or, length, refl, sym, ap, ◌∙◌, subst, inl, inr, arith, nat_eq, ◌==◌}
+use Rattle.std.proofs.Common.{◌≡◌, ◌≢◌, ℕ, ◌<◌, ◌≤◌, Bool, true, false, cond, ◌||◌, List, [], ◌∷◌, map, Option, Some, None, IsSome, length, refl, sym, ap, ◌∙◌, subst, arith, nat_eq, ◌==◌}
 use Rattle.std.proofs.lemmas.Bool.Decides.{nat_tests}
 use Rattle.std.proofs.lemmas.List.Sorted.{All-permutation, sum_by-IsPermutation, list_any-IsPermutation, IsPermutation-swap, IsPermutation-refl, IsPermutation-trans}
 use Rattle.std.specs.List.{list_any, swap}
@@ -10,15 +10,13 @@ use Rattle.std.specs.Cmp.{nat_cmp_total, unsigned_tied}
 use Rattle.std.specs.FinMap as finite
 use Rattle.std.specs.FinMap.{nat_cmp-IsAntisymmetric}
 use Rattle.std.specs.FinSet as set
-use Rattle.gr_logic.specs.Literals.{Literal, negation, same_literal}
-use Rattle.gr_logic.specs.LiteralSets.{literal_cmp, FiniteSet}
+use Rattle.gr_logic.specs.Literals.{Literal, same_literal}
+use Rattle.gr_logic.specs.LiteralSets.{literal_cmp}
 use Rattle.gr_logic.specs.Rup.{LiteralSet, members}
-use Rattle.gr_logic.specs.Closure.{no_literals}
-use Rattle.gr_logic.specs.declared.places.Place.{Place}
 use Rattle.gr_logic.proofs.FiniteSets.{literal_cmp_total, literal_cmp-IsAntisymmetric, eq_by_cmp-literal}
 use Rattle.gr_arena.specs.Arenas.{Stored, no_clause}
-use Rattle.gr_prop.specs.Bases.{BaseClause, Clauses, base_clause, clauses_in, family}
-use Rattle.gr_prop.specs.Watching.{Store, stored_at, lits_at, bit, occurs, AllDistinct, AreKnown}
+use Rattle.gr_prop.specs.Bases.{BaseClause, base_clause, clauses_in, family}
+use Rattle.gr_prop.specs.Watching.{Store, stored_at, lits_at, bit, AllDistinct, AreKnown}
 use Rattle.gr_prop.specs.Visits.{IsReordered}
 
 pub tied-itself : (q : ℕ) → eq_by_cmp nat_cmp q q ≡ true

@@ -1,32 +1,29 @@
 -- what a visit keeps of the walk
-use Rattle.std.proofs.Common.{◌≡◌, ◌≢◌, ◌⊎◌, ℕ, ◌+◌, ◌-◌, ◌*◌, ◌<◌, ◌≤◌, Bool, true, false, not, ◌&&◌, ◌||◌, All, List, [], ◌∷◌, ◌++◌, Option, Some, None, IsSome, get_or, set, take, length, refl, sym, ap, ◌∙◌, subst, inl, inr, arith, nat_eq, zero, suc, if◌then◌else◌, is_none}
+use Rattle.std.proofs.Common.{◌≡◌, ◌⊎◌, ℕ, ◌+◌, ◌<◌, ◌≤◌, true, false, All, List, [], ◌∷◌, ◌++◌, Some, IsSome, get_or, set, take, length, refl, sym, ap, ◌∙◌, subst, inl, inr, arith, nat_eq, zero, suc}
 use Rattle.std.proofs.lemmas.Bool.Decides.{nat_tests}
-use Rattle.std.proofs.lemmas.List.{append-nil, append_assoc, length-set, take-set, get_or-set_same, get_or_default}
+use Rattle.std.proofs.lemmas.List.{append-nil, append_assoc, get_or_default}
 use Rattle.std.proofs.lemmas.List.Elements.{All-set, All-append, All-nil, All-cons}
-use Rattle.std.specs.List.{list_any, sum_by, swap_remove}
+use Rattle.std.specs.List.{list_any}
 use Rattle.std.specs.List.Sorted.{IsPermutation}
 use Rattle.std.specs.FinMap as finite
-use Rattle.gr_logic.specs.Literals.{Literal, negation, same_literal}
+use Rattle.gr_logic.specs.Literals.{Literal, negation}
 use Rattle.gr_logic.specs.Codes.{code_of}
 use Rattle.gr_logic.specs.Rup.{members}
-use Rattle.gr_logic.specs.Closure.{IsWithin, Forces}
+use Rattle.gr_logic.specs.Closure.{IsWithin}
 use Rattle.gr_logic.specs.declared.places.Place.{Place}
-use Rattle.gr_logic.proofs.Sound.{same_literal-is}
-use Rattle.gr_logic.proofs.SameLiteral.{same_literal-itself, members-first, members-later}
 use Rattle.gr_trail.specs.Trails.{Assigned, TrailState, true_in}
 use Rattle.gr_watch.specs.declared.lists.Watch.{Watch}
 use Rattle.gr_watch.specs.WatchLists.{WatchLists, list_of, with_list}
-use Rattle.gr_prop.specs.Bases.{clauses_in, family}
+use Rattle.gr_prop.specs.Bases.{clauses_in}
 use Rattle.gr_prop.specs.BaseChanges.{with_forced, IsForcedAt, IsGrown}
-use Rattle.gr_prop.specs.Watching.{Store, lits_at, bit, count_in, watched, IsWatching, IsBlocked, AreBlocked, AllDistinct, AreKnown, IsKept, IsGuarded, Guards, IsSound, is_in}
-use Rattle.gr_prop.specs.Visits.{IsWatchedIn, IsReordered, IsTurned, IsHeld, IsMoved, IsFailed, IsCut, OthersFalse}
+use Rattle.gr_prop.specs.Watching.{Store, lits_at, bit, count_in, watched, IsBlocked, IsGuarded, Guards, IsSound, is_in}
+use Rattle.gr_prop.specs.Visits.{IsWatchedIn, IsReordered, IsTurned, OthersFalse}
 use Rattle.gr_prop.specs.Walking.{IsWalking, AreVisited, IsProgress}
-use Rattle.gr_prop.specs.Additions.{attached}
-use Rattle.gr_prop.proofs.TrailSets.{true_in-more, true_in-last}
-use Rattle.gr_prop.proofs.Kept.{any-weaker, any-member, kept-order, kept-none, guarded-more}
+use Rattle.gr_prop.proofs.TrailSets.{true_in-more}
+use Rattle.gr_prop.proofs.Kept.{any-weaker, any-member, kept-order, guarded-more}
 use Rattle.gr_prop.proofs.Stores.{by_place, lits-other, there-other, reordered-clauses, reordered-distinct, reordered-known, reordered-any, family-there}
 use Rattle.gr_prop.proofs.Sound.{sound-forced}
-use Rattle.gr_prop.proofs.Counts.{code-low, count-here, watched-in, there-in, list-same, list-other, by_list, not-same, flip-same, count-push, count-more, count-removed, count-set, front-removed, blocked-removed, blocked-reordered, turned-watching, attached-count, attached-length, attached-blocked}
+use Rattle.gr_prop.proofs.Counts.{code-low, count-here, watched-in, there-in, list-same, list-other, by_list, count-more, count-set, blocked-reordered, turned-watching}
 
 module _ (k : Store) (t : TrailState) (ws : WatchLists) (list : List Watch) (gone : Literal)
     (walk : IsWalking k t ws list gone) where

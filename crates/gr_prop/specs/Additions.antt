@@ -1,10 +1,8 @@
 -- how a clause stands that comes in
-use Rattle.std.specs.Prelude.{◌≡◌, ◌⊎◌, ℕ, Bool, true, false, List, [], ◌∷◌, ◌++◌, ◌≤◌, ◌<◌, IsTrue, take, length, slice_index_or, Option, Some, None}
-use Rattle.gr_logic.specs.Literals.{Literal, negation, same_literal}
-use Rattle.gr_logic.specs.Rup.{members}
-use Rattle.gr_logic.specs.Closure.{Forces}
+use Rattle.std.specs.Prelude.{◌≡◌, ◌⊎◌, ℕ, true, false, List, [], ◌∷◌, ◌++◌, ◌≤◌, ◌<◌, IsTrue, take, length, slice_index_or, None}
+use Rattle.gr_logic.specs.Literals.{Literal, negation}
 use Rattle.gr_logic.specs.declared.places.Place.{Place}
-use Rattle.gr_trail.specs.Trails.{Assigned, TrailState, true_in, value_in}
+use Rattle.gr_trail.specs.Trails.{Assigned, true_in, value_in}
 use Rattle.gr_watch.specs.declared.lists.Watch.{Watch}
 use Rattle.gr_watch.specs.WatchLists.{WatchLists, list_of, with_list, taken_out, first_at, is_at}
 use Rattle.std.specs.List.{list_any}

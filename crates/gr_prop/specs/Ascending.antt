@@ -1,5 +1,5 @@
 -- the keys of a finite map, in order
-use Rattle.std.specs.Prelude.{◌≡◌, ◌↔◌, ◌<◌, ℕ, List, AllPairs, Contains, IsSome}
+use Rattle.std.specs.Prelude.{◌↔◌, ◌<◌, ℕ, List, AllPairs, Contains, IsSome}
 use Rattle.std.specs.Ordering.{nat_cmp}
 use Rattle.std.specs.FinMap as finite
 use Rattle.gr_logic.specs.declared.places.Place.{Place}

@@ -1,15 +1,14 @@
 -- what the calls of a base change
-use Rattle.std.specs.Prelude.{◌≡◌, ◌≢◌, ◌⊎◌, ◌↔◌, ◌<◌, ◌+◌, ℕ, Bool, true, false, List, [], ◌∷◌, ◌++◌, All, map, AllPairs, Contains, Option, Some, None, is_none, is_some, option_map, unwrap_or, IsSome}
+use Rattle.std.specs.Prelude.{◌≡◌, ◌⊎◌, ◌↔◌, ◌<◌, ◌+◌, ℕ, true, false, List, [], ◌∷◌, ◌++◌, All, map, AllPairs, Contains, Some, None, is_none, is_some, option_map, unwrap_or, IsSome}
 use Rattle.std.specs.Ordering.{nat_cmp}
 use Rattle.std.specs.FinMap as finite
 use Rattle.std.specs.FinSet as set
 use Rattle.gr_logic.specs.Literals.{Literal, var_of}
-use Rattle.gr_logic.specs.LiteralSets.{FiniteSet}
 use Rattle.gr_logic.specs.Rup.{members}
 use Rattle.gr_logic.specs.Closure.{Forces, DerivesConflict}
 use Rattle.gr_logic.specs.declared.places.Place.{Place}
 use Rattle.gr_trail.specs.Trails.{Assigned, TrailState, true_in, value_in, assigned_to, up_to, with_reason}
-use Rattle.gr_prop.specs.Bases.{BaseClause, BaseState, Clauses, family, decisions, HasId, IsUnitClosure, IsFalseAt}
+use Rattle.gr_prop.specs.Bases.{BaseState, Clauses, family, decisions, HasId, IsUnitClosure, IsFalseAt}
 use Rattle.gr_prop.specs.declared.bases.Propagated.{Propagated}
 use Rattle.gr_prop.specs.declared.bases.Propagated.TheVariants.{Quiet, Conflict}
 

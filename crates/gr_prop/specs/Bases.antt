@@ -1,17 +1,17 @@
 -- a clause database with its trail, as unit propagation with watched literals keeps it (Moskewicz et al., Chaff, DAC
 -- 2001)
-use Rattle.std.specs.Prelude.{◌≡◌, ◌≢◌, ◌⊎◌, ◌↔◌, ◌<◌, ◌+◌, ℕ, Bool, true, false, List, [], ◌∷◌, ◌++◌, All, map, length, take, Option, Some, None, is_none, option_map}
+use Rattle.std.specs.Prelude.{◌≡◌, ◌≢◌, ◌↔◌, ◌<◌, ℕ, Bool, true, false, List, [], ◌∷◌, map, take, Option, Some, None, is_none, option_map}
 use Rattle.std.specs.List.{filter}
 use Rattle.std.specs.Ordering.{nat_cmp}
 use Rattle.std.specs.FinMap as finite
 use Rattle.std.specs.FinSet as set
-use Rattle.gr_logic.specs.Literals.{Literal, negation, same_literal, var_of}
+use Rattle.gr_logic.specs.Literals.{Literal, negation, var_of}
 use Rattle.gr_logic.specs.LiteralSets.{FiniteSet}
 use Rattle.gr_logic.specs.Rup.{LiteralSet, members, with_literal}
 use Rattle.gr_logic.specs.Closure.{ClauseFamily, no_literals, Forces, InClosure, DerivesConflict}
 use Rattle.gr_logic.specs.declared.places.Place.{Place}
 use Rattle.gr_arena.specs.Arenas.{Stored}
-use Rattle.gr_trail.specs.Trails.{Assigned, TrailState, true_in, value_in, assigned_to, up_to, with_reason}
+use Rattle.gr_trail.specs.Trails.{Assigned, TrailState, true_in, assigned_to, up_to}
 
 -- a clause's id, its LBD (the literal block distance of Audemard and Simon, IJCAI 2009) and the set of its literals
 pub record BaseClause : Type 0 where

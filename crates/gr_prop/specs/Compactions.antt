@@ -1,5 +1,5 @@
 -- what moving the clauses together does to the rest of a base
-use Rattle.std.specs.Prelude.{◌≡◌, ℕ, List, All, Some, IsSome, map}
+use Rattle.std.specs.Prelude.{◌≡◌, ℕ, All, Some, IsSome}
 use Rattle.std.specs.Ordering.{nat_cmp}
 use Rattle.std.specs.FinMap as finite
 use Rattle.gr_logic.specs.Literals.{Literal}

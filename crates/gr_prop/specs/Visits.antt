@@ -1,13 +1,10 @@
 -- what the visit of a watch does
-use Rattle.std.specs.Prelude.{◌≡◌, ◌≢◌, ◌⊎◌, ℕ, Bool, true, false, List, [], ◌∷◌, ◌++◌, Option, Some, None, IsSome}
+use Rattle.std.specs.Prelude.{◌≡◌, ◌≢◌, ◌⊎◌, ℕ, true, false, List, [], ◌∷◌, ◌++◌, IsSome}
 use Rattle.std.specs.List.Sorted.{IsPermutation}
 use Rattle.std.specs.FinMap as finite
 use Rattle.gr_logic.specs.Literals.{Literal, negation, same_literal}
 use Rattle.gr_logic.specs.Rup.{members}
-use Rattle.gr_logic.specs.declared.places.Place.{Place}
-use Rattle.gr_arena.specs.Arenas.{Stored}
 use Rattle.gr_trail.specs.Trails.{Assigned, TrailState, true_in}
-use Rattle.gr_watch.specs.declared.lists.Watch.{Watch}
 use Rattle.gr_watch.specs.WatchLists.{WatchLists, list_of, with_list}
 use Rattle.gr_prop.specs.Watching.{Store, stored_at, lits_at, AllFalse}
 use Rattle.gr_prop.specs.BaseChanges.{with_forced}

@@ -1,16 +1,16 @@
 -- which clauses a literal's list watches, and what guards them
-use Rattle.std.specs.Prelude.{◌≡◌, ◌≢◌, ◌⊎◌, ℕ, ◌+◌, ◌*◌, ◌<◌, ◌≤◌, Bool, true, false, ◌&&◌, List, [], ◌∷◌, ◌++◌, All, length, take, drop, Option, Some, None, IsSome, nat_eq, nat_le, unwrap_or, if◌then◌else◌}
+use Rattle.std.specs.Prelude.{◌≡◌, ◌⊎◌, ℕ, ◌+◌, ◌*◌, ◌<◌, ◌≤◌, Bool, true, false, ◌&&◌, List, [], ◌∷◌, All, length, take, drop, Option, Some, IsSome, nat_eq, nat_le, unwrap_or, if◌then◌else◌}
 use Rattle.std.specs.List.{list_any, sum_by}
 use Rattle.std.specs.Ordering.{nat_cmp}
 use Rattle.std.specs.FinMap as finite
 use Rattle.gr_logic.specs.Literals.{Literal, negation, same_literal}
 use Rattle.gr_logic.specs.Rup.{LiteralSet, members}
-use Rattle.gr_logic.specs.Closure.{ClauseFamily, no_literals}
+use Rattle.gr_logic.specs.Closure.{no_literals}
 use Rattle.gr_logic.specs.declared.places.Place.{Place}
 use Rattle.gr_arena.specs.Arenas.{Stored, no_clause}
 use Rattle.gr_trail.specs.Trails.{Assigned, TrailState, true_in, Climbs}
 use Rattle.gr_watch.specs.declared.lists.Watch.{Watch}
-use Rattle.gr_watch.specs.WatchLists.{WatchLists, list_of, with_list}
+use Rattle.gr_watch.specs.WatchLists.{WatchLists, list_of}
 use Rattle.gr_prop.specs.Bases.{Clauses, clauses_in, family, AreFounded, HasIdAt}
 
 -- clauses by their places, with the order of their literals

@@ -1,4 +1,4 @@
-use Rattle.std.proofs.Common.{◌≡◌, [], length, take, ap, sym, ◌∙◌, refl}
+use Rattle.std.proofs.Common.{◌≡◌, [], length, take, ap, ◌∙◌}
 use Rattle.gr_watch.specs.WatchLists.{list_of, with_list}
 use Rattle.gr_prop.proofs.Arranging.{attach-undone}
 use Rattle.gr_prop.proofs.additions.attach_both.Goals as goal

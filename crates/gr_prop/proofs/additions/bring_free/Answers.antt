@@ -1,4 +1,4 @@
-use Rattle.std.proofs.Common.{◌≡◌, ◌<◌, ◌≤◌, length, get_or, ap, sym, ◌∙◌, subst, arith}
+use Rattle.std.proofs.Common.{◌<◌, ◌≤◌, length, get_or, ap, sym, ◌∙◌, subst, arith}
 use Rattle.gr_logic.specs.Literals.{negation}
 use Rattle.gr_trail.specs.Trails.{true_in}
 use Rattle.gr_prop.specs.Watching.{lits_at}

@@ -1,5 +1,4 @@
 use Rattle.std.proofs.Common.{length, ◌-◌, ◌≡◌, ◌≤◌, nat_eq, ℕ, false, take}
-use Rattle.gr_logic.specs.declared.places.Place.{Place}
 use Rattle.gr_prop.specs.Watching.{is_in}
 use Rattle.gr_prop.proofs.additions.forget.Given as goal
 

@@ -1,10 +1,4 @@
-use Rattle.std.proofs.Common.{◌≡◌, ◌<◌, ◌≤◌, ◌+◌, ℕ, length, Some, None, Option, IsSome, Bool, true, false, nat_eq, take, get_or, ap, sym, ◌∙◌, subst, arith, refl}
-use Rattle.std.specs.List.{list_any}
-use Rattle.std.specs.Option.{option_map, is_some}
-use Rattle.std.specs.FinMap as finite
-use Rattle.std.proofs.lemmas.List.{take_all}
-use Rattle.gr_logic.specs.declared.places.Place.{Place}
-use Rattle.gr_prop.specs.BaseChanges.{moved_place}
+use Rattle.std.proofs.Common.{◌+◌, get_or, sym, ◌∙◌, arith}
 use Rattle.gr_prop.proofs.MovedLists.{IsIndexMoved, untouched, put-step, skip-step, index-done}
 use Rattle.gr_prop.proofs.compacting.move_index.Goals.{in-Some, in_default}
 use Rattle.gr_prop.proofs.compacting.move_index.Goals as goal

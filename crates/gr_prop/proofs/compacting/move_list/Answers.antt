@@ -1,7 +1,7 @@
-use Rattle.std.proofs.Common.{◌≡◌, ◌<◌, ◌≤◌, length, set, ap, sym, ◌∙◌, arith}
+use Rattle.std.proofs.Common.{◌<◌, length, set, ap, ◌∙◌, arith}
 use Rattle.std.proofs.lemmas.List.Edits.{map_over_more}
 use Rattle.gr_prop.specs.Compactions.{moved_watch}
-use Rattle.gr_prop.proofs.MovedLists.{watch-moved, still-at, all-moved, long-as}
+use Rattle.gr_prop.proofs.MovedLists.{watch-moved, long-as}
 use Rattle.gr_prop.proofs.compacting.move_list.Goals as goal
 
 pub loop-index-preserved : goal.loop-index-preserved

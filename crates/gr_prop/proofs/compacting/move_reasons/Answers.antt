@@ -1,9 +1,6 @@
-use Rattle.std.proofs.Common.{◌≡◌, ◌<◌, ◌≤◌, length, map, take, drop, ◌++◌, get_or, All, Some, None, IsSome, Option, ap, sym, ◌∙◌, subst, arith, refl}
-use Rattle.std.specs.FinMap as finite
-use Rattle.std.specs.Option.{option_map, unwrap_or}
-use Rattle.gr_logic.specs.Literals.{Literal, var_of}
-use Rattle.gr_logic.specs.declared.places.Place.{Place}
-use Rattle.gr_trail.specs.Trails.{Assigned, TrailState, assigned_to, lits_of, with_reason}
+use Rattle.std.proofs.Common.{◌≡◌, ◌<◌, length, map, take, drop, ◌++◌, get_or, Some, IsSome, ap, sym, ◌∙◌, subst, arith, refl}
+use Rattle.std.specs.Option.{option_map}
+use Rattle.gr_trail.specs.Trails.{Assigned, TrailState, with_reason}
 use Rattle.gr_prop.specs.BaseChanges.{moved_assigned}
 use Rattle.gr_prop.specs.Compactions.{HasMovedReason}
 use Rattle.gr_prop.proofs.MovedLists.{AssignedAt, assigned-at, reason-is, still-at, long-as, reason-next, reason-none}

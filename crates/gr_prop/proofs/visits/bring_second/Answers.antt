@@ -1,7 +1,6 @@
-use Rattle.std.proofs.Common.{◌≡◌, ◌≤◌, ◌<◌, List, get_or, length, refl, sym, ap, ◌∙◌, subst, arith}
-use Rattle.gr_logic.specs.Literals.{Literal}
+use Rattle.std.proofs.Common.{get_or, refl, sym, ap, ◌∙◌, subst, arith}
 use Rattle.gr_prop.specs.Watching.{lits_at}
-use Rattle.gr_prop.specs.Visits.{IsReordered, IsTurned}
+use Rattle.gr_prop.specs.Visits.{IsReordered}
 use Rattle.gr_prop.proofs.Stores.{swapped-reordered, lits-swapped, reordered-itself}
 use Rattle.gr_prop.proofs.Endings.{turned-swap, turned-already, watched-long, same-code, other-code}
 use Rattle.gr_prop.proofs.visits.bring_second.Goals as goal

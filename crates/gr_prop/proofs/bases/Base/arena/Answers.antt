@@ -1,4 +1,4 @@
-use Rattle.std.proofs.Common.{◌≡◌, ◌<◌, subst, ap, sym, ◌∙◌, All, Some}
+use Rattle.std.proofs.Common.{◌<◌, subst, ap, All}
 use Rattle.std.specs.Option.{unwrap_or}
 use Rattle.gr_logic.specs.NormalForms.{IsNormal}
 use Rattle.gr_logic.specs.Literals.{Literal}

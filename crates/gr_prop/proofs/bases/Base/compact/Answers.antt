@@ -1,4 +1,4 @@
-use Rattle.std.proofs.Common.{◌≡◌, ◌≤◌, All, Some, None, map, ap, sym, ◌∙◌, subst}
+use Rattle.std.proofs.Common.{None, map, ap, sym, ◌∙◌, subst}
 use Rattle.gr_prop.specs.Bases.{BaseState, clauses_in}
 use Rattle.gr_prop.specs.BaseChanges.{IsCompacted, moved_assigned}
 use Rattle.gr_prop.specs.Watching.{IsKeptBase}

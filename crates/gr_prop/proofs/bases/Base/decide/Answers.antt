@@ -1,6 +1,5 @@
-use Rattle.std.proofs.Common.{◌≡◌, ◌<◌, None, false, true, ap, sym, ◌∙◌, subst, refl}
+use Rattle.std.proofs.Common.{◌≡◌, ◌<◌, None, false, ap, sym, ◌∙◌, subst, refl}
 use Rattle.gr_trail.specs.Trails.{value_in}
-use Rattle.gr_prop.specs.BaseChanges.{with_decision}
 use Rattle.gr_prop.specs.Watching.{IsReady}
 use Rattle.gr_prop.proofs.Keeping.{kept-open}
 use Rattle.gr_prop.proofs.Deciding.{ready-decided}

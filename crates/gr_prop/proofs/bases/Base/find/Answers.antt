@@ -1,8 +1,6 @@
-use Rattle.std.proofs.Common.{◌≡◌, ◌≢◌, ap, sym, ◌∙◌, subst, Some, None, Option, refl}
+use Rattle.std.proofs.Common.{subst}
 use Rattle.std.specs.Option.{IfSome, IfNone}
-use Rattle.std.specs.FinMap as finite
-use Rattle.gr_logic.specs.declared.places.Place.{Place}
-use Rattle.gr_prop.specs.Bases.{HasIdAt, LacksId, Clauses}
+use Rattle.gr_prop.specs.Bases.{HasIdAt, LacksId}
 use Rattle.gr_prop.proofs.Finding.{found-some, found-none}
 use Rattle.gr_prop.proofs.bases.Base.find.Goals as goal
 

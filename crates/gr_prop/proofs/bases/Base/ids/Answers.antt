@@ -1,4 +1,4 @@
-use Rattle.std.proofs.Common.{◌≡◌, subst}
+use Rattle.std.proofs.Common.{subst}
 use Rattle.std.specs.Result.{IfOk}
 use Rattle.gr_prop.specs.Bases.{BaseState}
 use Rattle.gr_prop.specs.BaseChanges.{AreIdsOf}

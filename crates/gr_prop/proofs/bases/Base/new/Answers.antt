@@ -1,5 +1,5 @@
-use Rattle.std.proofs.Common.{◌≡◌, None, false, ap, sym, ◌∙◌, refl}
-use Rattle.gr_prop.specs.Bases.{clauses_in, empty_base}
+use Rattle.std.proofs.Common.{None, false, ap, ◌∙◌}
+use Rattle.gr_prop.specs.Bases.{clauses_in}
 use Rattle.gr_prop.proofs.Deciding.{kept-empty, empty-clauses}
 use Rattle.gr_prop.proofs.bases.Base.new.Goals as goal
 

@@ -1,4 +1,4 @@
-use Rattle.std.proofs.Common.{length, ◌-◌, ◌≤◌, ◌≡◌, [], false, None}
+use Rattle.std.proofs.Common.{◌-◌, ◌≡◌, [], false, None}
 use Rattle.gr_prop.specs.Bases.{clauses_in}
 use Rattle.gr_prop.specs.BaseChanges.{IsGrown}
 use Rattle.gr_prop.specs.Watching.{IsReady, IsIndexed}

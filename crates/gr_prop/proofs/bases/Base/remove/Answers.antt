@@ -1,10 +1,9 @@
-use Rattle.std.proofs.Common.{◌≡◌, ◌≢◌, IsSome, Some, None, All, ap, sym, ◌∙◌, subst, refl}
+use Rattle.std.proofs.Common.{◌≢◌, IsSome, Some, None, All, ap, sym, ◌∙◌, subst}
 use Rattle.std.specs.FinMap as finite
-use Rattle.std.specs.Option.{option_map}
-use Rattle.gr_prop.specs.Bases.{BaseState, base_clause, clauses_in}
+use Rattle.gr_prop.specs.Bases.{BaseState, clauses_in}
 use Rattle.gr_prop.specs.Watching.{IsKeptBase}
 use Rattle.gr_prop.specs.Additions.{IsWatchedByTwo, unwatching}
-use Rattle.gr_prop.proofs.Stores.{clauses-remove, get-clauses_in}
+use Rattle.gr_prop.proofs.Stores.{clauses-remove}
 use Rattle.gr_prop.proofs.Removing.{there-in-base, watched-by-two, kept-removed}
 use Rattle.gr_prop.proofs.bases.Base.remove.Goals as goal
 

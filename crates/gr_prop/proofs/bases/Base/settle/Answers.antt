@@ -1,11 +1,9 @@
-use Rattle.std.proofs.Common.{◌≡◌, ◌<◌, ◌∷◌, [], IsSome, Some, None, true, ap, sym, ◌∙◌, subst, refl}
+use Rattle.std.proofs.Common.{IsSome, None, ap, sym, ◌∙◌, subst, refl}
 use Rattle.std.specs.FinMap as finite
 use Rattle.std.specs.Option.{option_map}
-use Rattle.gr_logic.specs.Literals.{Literal}
 use Rattle.gr_trail.specs.Trails.{true_in, assigned_to, with_reason}
 use Rattle.gr_prop.specs.Bases.{BaseState, clauses_in, LacksId}
 use Rattle.gr_prop.specs.BaseChanges.{IsSettled}
-use Rattle.gr_prop.specs.Watching.{IsKeptBase}
 use Rattle.gr_prop.proofs.Stores.{get-insert-same, remove-insert}
 use Rattle.gr_prop.proofs.Arrivals.{kept-same}
 use Rattle.gr_prop.proofs.Settling.{true-zero, true-known, kept-settled-at, is-settled-at}

@@ -1,4 +1,4 @@
-use Rattle.std.proofs.Common.{◌≡◌, ap, sym, ◌∙◌}
+use Rattle.std.proofs.Common.{ap, sym, ◌∙◌}
 use Rattle.std.specs.FinMap as finite
 use Rattle.gr_prop.proofs.IdEntries.{get-entries}
 use Rattle.gr_prop.proofs.id_maps.IdMap.get.Goals as goal

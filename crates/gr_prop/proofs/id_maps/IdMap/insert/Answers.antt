@@ -1,4 +1,4 @@
-use Rattle.std.proofs.Common.{◌≡◌, ap, sym, ◌∙◌}
+use Rattle.std.proofs.Common.{ap, ◌∙◌}
 use Rattle.std.specs.FinMap as finite
 use Rattle.gr_prop.proofs.IdEntries.{entries-insert}
 use Rattle.gr_prop.proofs.id_maps.IdMap.insert.Goals as goal

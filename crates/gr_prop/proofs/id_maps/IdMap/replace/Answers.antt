@@ -1,4 +1,4 @@
-use Rattle.std.proofs.Common.{◌≡◌, IsSome, None, ap, sym, ◌∙◌, subst}
+use Rattle.std.proofs.Common.{IsSome, ap, sym, ◌∙◌, subst}
 use Rattle.std.specs.FinMap as finite
 use Rattle.std.specs.Map.{lookup}
 use Rattle.std.proofs.Common.{nat_eq}

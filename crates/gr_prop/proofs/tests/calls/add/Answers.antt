@@ -1,4 +1,4 @@
-use Rattle.std.proofs.Common.{◌≡◌, sym, ap, subst}
+use Rattle.std.proofs.Common.{sym, subst}
 use Rattle.gr_logic.specs.NormalForms.{IsNormal}
 use Rattle.gr_logic.proofs.FirstOccurrences.{normal-forms}
 use Rattle.gr_prop.proofs.tests.calls.add.Goals as goal

@@ -1,4 +1,4 @@
-use Rattle.std.proofs.Common.{length, ◌-◌, ◌≡◌, ◌≤◌, ◌<◌, All, take}
+use Rattle.std.proofs.Common.{length, ◌-◌, ◌≤◌, ◌<◌, All, take}
 use Rattle.gr_prop.proofs.tests.calls.are_known.Given as goal
 
 abbrev pub invariant-loop-index : goal.invariant-loop-index

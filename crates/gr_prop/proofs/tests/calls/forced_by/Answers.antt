@@ -1,10 +1,9 @@
-use Rattle.std.proofs.Common.{◌≡◌, ◌≢◌, ◌<◌, ◌≤◌, ◌+◌, ℕ, All, take, length, get_or, Option, Some, None, IsSome, refl, sym, ap, ◌∙◌, subst, arith}
+use Rattle.std.proofs.Common.{◌≡◌, ◌≢◌, ◌<◌, ◌≤◌, All, length, get_or, Option, Some, IsSome, refl, sym, ap, ◌∙◌, subst, arith}
 use Rattle.std.proofs.lemmas.List.{length-map, take_all}
 use Rattle.std.proofs.lemmas.List.Elements.{All-more}
-use Rattle.std.specs.Option.{option_map, unwrap_or}
-use Rattle.gr_logic.specs.Literals.{Literal, var_of}
+use Rattle.std.specs.Option.{unwrap_or}
 use Rattle.gr_logic.specs.declared.places.Place.{Place}
-use Rattle.gr_trail.specs.Trails.{Assigned, assigned_to, lits_of}
+use Rattle.gr_trail.specs.Trails.{Assigned}
 use Rattle.gr_prop.proofs.MovedLists.{AssignedAt, assigned-at, reason-is}
 use Rattle.gr_prop.proofs.tests.calls.forced_by.Goals.{After-var-var, in-Some+else-reason-place, in_default}
 use Rattle.gr_prop.proofs.tests.calls.forced_by.Goals as goal

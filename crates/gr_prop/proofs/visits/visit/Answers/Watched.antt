@@ -1,5 +1,5 @@
 -- the literals that a visit watches
-use Rattle.std.proofs.Common.{◌≡◌, ◌<◌, All, length, false, get_or, sym, ap, ◌∙◌, subst, arith}
+use Rattle.std.proofs.Common.{◌≡◌, ◌<◌, All, length, get_or, sym, ap, ◌∙◌, subst, arith}
 use Rattle.std.proofs.lemmas.List.Sorted.{All-permutation}
 use Rattle.gr_logic.specs.Literals.{Literal}
 use Rattle.gr_prop.specs.Watching.{lits_at}

@@ -1,5 +1,5 @@
 -- a round of propagation, and how the rounds end
-use Rattle.std.proofs.Common.{◌≡◌, ◌≤◌, ◌<◌, length, [], IsSome, true, false, get_or, sym, ap, ◌∙◌, subst}
+use Rattle.std.proofs.Common.{◌≡◌, ◌≤◌, ◌<◌, length, [], IsSome, get_or, sym, ap, ◌∙◌, subst}
 use Rattle.std.specs.FinMap as finite
 use Rattle.std.specs.List.{slice_get}
 use Rattle.std.proofs.lemmas.List.{length-map}
