@@ -1,43 +1,91 @@
-//! Loops over the arena, the trail and the watch lists, to be timed from outside beside the same loops in C.
+//! Loops over the arena, the trail, the watch lists and the base, to be timed from outside beside the same loops in C.
 //!
-//! Words: `arena N`, `trail N` or `watches N`. The loop is run N times over data that are the same in each run, and its
-//! checksum is printed.
+//! Words: `arena N`, `trail N`, `watches N` or `propagation FILE N`. The loop is run N times over data that are the same
+//! in each run, and its checksum is printed.
 #![tactic(auto)]
 
 mod arenas;
+mod bases;
 mod mixing;
+mod propagations;
 mod trails;
 mod watches;
 
-use gr_logic::OutOfMemory;
-use std::alloc::Global;
+use gr_dimacs::{PROGRAM_LIMITS, ReadError, read};
+use gr_io::FileSource;
+use gr_logic::{Formula, OutOfMemory};
 use std::process::ExitCode;
 use std::{env, io};
 
-fn main(rt: HostRuntime) -> io::Result<ExitCode> {
-    let args = env::args(&rt)?.collect::<Vec<String>>(rt.alloc())?;
-    match loop_of(rt.alloc(), &args) {
-        Some(Ok(checksum)) => {
-            println!(rt; "{checksum}")?;
-            Ok(ExitCode::SUCCESS)
-        }
-        Some(Err(OutOfMemory)) => Ok(ExitCode::from(6)),
-        None => Ok(ExitCode::from(2)),
+/// Why there is no checksum.
+#[derive(Clone, Copy, Debug)]
+enum Stop {
+    /// The words name no loop.
+    Usage,
+    /// The file spells no formula, or could not be read.
+    Unread,
+    OutOfMemory,
+}
+
+impl From<OutOfMemory> for Stop {
+    fn from(_wanting: OutOfMemory) -> Stop {
+        Stop::OutOfMemory
     }
 }
 
-/// Runs the loop that the words name, and gives its checksum: `None` where they name none.
-fn loop_of(alloc: Global, args: &[String]) -> Option<Result<u64, OutOfMemory>> {
-    match args {
-        [_name, kind, rounds] => {
-            let rounds = rounds.as_str().parse::<u32>().ok()?;
-            match kind.as_str() {
-                "arena" => Some(arenas::scans(alloc, rounds)),
-                "trail" => Some(trails::rounds(alloc, rounds)),
-                "watches" => Some(watches::walks(alloc, rounds)),
-                _ => None,
-            }
+fn main(rt: HostRuntime) -> io::Result<ExitCode> {
+    let args = env::args(&rt)?.collect::<Vec<String>>(rt.alloc())?;
+    match run(rt, &args) {
+        Ok(checksum) => {
+            println!(rt; "{checksum}")?;
+            Ok(ExitCode::SUCCESS)
         }
-        _ => None,
+        Err(Stop::Unread) => Ok(ExitCode::from(1)),
+        Err(Stop::Usage) => Ok(ExitCode::from(2)),
+        Err(Stop::OutOfMemory) => Ok(ExitCode::from(6)),
+    }
+}
+
+/// Runs the loop that the words name, and gives its checksum.
+fn run(rt: HostRuntime, args: &[String]) -> Result<u64, Stop> {
+    match args {
+        [_name, kind, rounds] => run_on_own_data(rt, kind.as_str(), rounds_of(rounds)?),
+        [_name, kind, file, rounds] if kind.as_str() == "propagation" => {
+            let rounds = rounds_of(rounds)?;
+            let formula = formula_in(rt, file)?;
+            Ok(propagations::rounds(rt.alloc(), &formula, rounds)?)
+        }
+        _ => Err(Stop::Usage),
+    }
+}
+
+/// Runs the loop of this name over data that it makes.
+fn run_on_own_data(rt: HostRuntime, kind: &str, rounds: u32) -> Result<u64, Stop> {
+    match kind {
+        "arena" => Ok(arenas::scans(rt.alloc(), rounds)?),
+        "trail" => Ok(trails::rounds(rt.alloc(), rounds)?),
+        "watches" => Ok(watches::walks(rt.alloc(), rounds)?),
+        _ => Err(Stop::Usage),
+    }
+}
+
+/// The number that a word spells.
+fn rounds_of(word: &String) -> Result<u32, Stop> {
+    match word.as_str().parse::<u32>() {
+        Ok(rounds) => Ok(rounds),
+        Err(_) => Err(Stop::Usage),
+    }
+}
+
+/// The formula that a file spells.
+fn formula_in(rt: HostRuntime, file: &String) -> Result<Formula, Stop> {
+    let Ok(path) = file.clone() else {
+        return Err(Stop::OutOfMemory);
+    };
+    let mut source = FileSource::new(rt, path);
+    match read(rt.alloc(), &mut source, &PROGRAM_LIMITS) {
+        Ok(formula) => Ok(formula),
+        Err(ReadError::OutOfMemory) => Err(Stop::OutOfMemory),
+        Err(_) => Err(Stop::Unread),
     }
 }

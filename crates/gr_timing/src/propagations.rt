@@ -1,0 +1,59 @@
+// Propagating from decisions that are drawn, over the clauses of a formula.
+use crate::bases::base_of;
+use crate::mixing::{literal, next};
+use gr_logic::{Formula, Lit, OutOfMemory};
+use gr_prop::{Base, Propagated};
+use std::alloc::Global;
+
+/// Decides and propagates from level zero up to a conflict, this many times.
+pub fn rounds(alloc: Global, formula: &Formula, rounds: u32) -> Result<u64, OutOfMemory> {
+    let vars = formula.vars();
+    let mut base = base_of(alloc, formula)?;
+    let mut quiet = propagate(&mut base)?;
+    let mut sum = 0u64;
+    let mut conflicts = 0u64;
+    for round in 0..rounds {
+        // A formula that is refuted without a decision has no rounds.
+        if !quiet {
+            break;
+        }
+        if !descend(&mut base, vars, round as u64)? {
+            conflicts = conflicts.wrapping_add(1);
+        }
+        sum = sum
+            .wrapping_mul(31)
+            .wrapping_add(base.trail().lits().len() as u64 + base.trail().depth() as u64);
+        base.backtrack(0);
+        quiet = propagate(&mut base)?;
+    }
+    Ok(sum.wrapping_mul(31).wrapping_add(conflicts))
+}
+
+/// Decides literals that are drawn, at most twice as many as there are variables, until a clause is false: whether none is.
+fn descend(base: &mut Base, vars: u32, seed: u64) -> Result<bool, OutOfMemory> {
+    let mut state = seed;
+    for _draw in 0..2 * vars {
+        state = next(state);
+        if !decide(base, literal(state, vars))? {
+            return Ok(false);
+        }
+    }
+    Ok(true)
+}
+
+/// Decides a literal where its variable has no value yet, and propagates: whether no clause is false.
+fn decide(base: &mut Base, lit: Lit) -> Result<bool, OutOfMemory> {
+    if base.trail().value(lit).is_some() {
+        return Ok(true);
+    }
+    base.decide(lit);
+    propagate(base)
+}
+
+/// Propagates: whether no clause is false.
+fn propagate(base: &mut Base) -> Result<bool, OutOfMemory> {
+    match base.propagate()? {
+        Propagated::Quiet => Ok(true),
+        Propagated::Conflict { place: _ } => Ok(false),
+    }
+}
