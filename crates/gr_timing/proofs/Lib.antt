@@ -1,2 +1,4 @@
 mod Lists
+mod Maps
 mod Places
+mod Taken

@@ -1,4 +1,8 @@
 // Propagating from decisions that are drawn, over the clauses of a formula.
+ghost use Rattle.std.specs.Prelude.{◌≡◌, ◌≤◌, ◌<◌, true, IfOk};
+ghost use Rattle.gr_prop.specs.Bases.{decisions};
+ghost use Rattle.gr_timing.specs.Rounds.{EndsAs, decided};
+
 use crate::bases::base_of;
 use crate::mixing::{literal, next};
 use gr_logic::{Formula, Lit, OutOfMemory};
@@ -20,17 +24,25 @@ pub fn rounds(alloc: Global, formula: &Formula, rounds: u32) -> Result<u64, OutO
         if !descend(&mut base, vars, round as u64)? {
             conflicts = conflicts.wrapping_add(1);
         }
-        sum = sum
-            .wrapping_mul(31)
-            .wrapping_add(base.trail().lits().len() as u64 + base.trail().depth() as u64);
+        sum = sum.wrapping_mul(31).wrapping_add(
+            base.trail().lits().len() as u64 + base.trail().depth() as u64,
+        );
         base.backtrack(0);
         quiet = propagate(&mut base)?;
     }
     Ok(sum.wrapping_mul(31).wrapping_add(conflicts))
 }
 
-/// Decides literals that are drawn, at most twice as many as there are variables, until a clause is false: whether none is.
-fn descend(base: &mut Base, vars: u32, seed: u64) -> Result<bool, OutOfMemory> {
+/// Decides literals that are drawn, twice as many as there are variables, or up to the first conflict: whether there is
+/// none.
+fn descend(base: &mut Base, vars: u32, seed: u64) -> Result<bool, OutOfMemory>
+    requires vars { base.old.trail.vars ≡ vars }
+    requires few { vars ≤ 1_000_000 }
+    requires ended { EndsAs true base.old }
+    ensures clauses { base.new.clauses ≡ base.old.clauses }
+    ensures vars { base.new.trail.vars ≡ base.old.trail.vars }
+    ensures ends { IfOk result (λ quiet. EndsAs quiet base.new) }
+{
     let mut state = seed;
     for _draw in 0..2 * vars {
         state = next(state);
@@ -41,8 +53,15 @@ fn descend(base: &mut Base, vars: u32, seed: u64) -> Result<bool, OutOfMemory> {
     Ok(true)
 }
 
-/// Decides a literal where its variable has no value yet, and propagates: whether no clause is false.
-fn decide(base: &mut Base, lit: Lit) -> Result<bool, OutOfMemory> {
+/// Decides a literal where its variable has no value, and propagates: whether there is no conflict.
+fn decide(base: &mut Base, lit: Lit) -> Result<bool, OutOfMemory>
+    requires known { lit.index < base.old.trail.vars }
+    requires ended { EndsAs true base.old }
+    ensures clauses { base.new.clauses ≡ base.old.clauses }
+    ensures vars { base.new.trail.vars ≡ base.old.trail.vars }
+    ensures decided { decisions base.new.trail.assigned ≡ decided base.old.trail.assigned lit }
+    ensures ends { IfOk result (λ quiet. EndsAs quiet base.new) }
+{
     if base.trail().value(lit).is_some() {
         return Ok(true);
     }
@@ -50,8 +69,13 @@ fn decide(base: &mut Base, lit: Lit) -> Result<bool, OutOfMemory> {
     propagate(base)
 }
 
-/// Propagates: whether no clause is false.
-fn propagate(base: &mut Base) -> Result<bool, OutOfMemory> {
+/// Propagates: whether there is no conflict.
+fn propagate(base: &mut Base) -> Result<bool, OutOfMemory>
+    ensures clauses { base.new.clauses ≡ base.old.clauses }
+    ensures vars { base.new.trail.vars ≡ base.old.trail.vars }
+    ensures decisions { decisions base.new.trail.assigned ≡ decisions base.old.trail.assigned }
+    ensures ends { IfOk result (λ quiet. EndsAs quiet base.new) }
+{
     match base.propagate()? {
         Propagated::Quiet => Ok(true),
         Propagated::Conflict { place: _ } => Ok(false),
