@@ -191,7 +191,8 @@ module _ (k n : Store) (t : TrailState) (ws : WatchLists) (head : ℕ) (broken :
   -- the base with the clause, over a trail that has grown or not
   ready-added : (xs : List Assigned) (other : List Place) → IsSound (clauses_in n) (record t { assigned = xs }) →
       head ≤ length xs → Guards n other xs (take head xs) → AreAt t.depth (drop head xs)
-      → AreBroken n (record t { assigned = xs }) other → IsReady n (record t { assigned = xs }) (watching_too ws place c)
+      → AreBroken n (record t { assigned = xs }) other → IsReady n (record t { assigned = xs }) (watching_too ws
+      place c)
       head other
   ready-added xs other sound within guards queue broken' = record {
     watching = watching-added c refl clause-known;

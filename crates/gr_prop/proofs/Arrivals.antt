@@ -155,7 +155,8 @@ module _ {k n : Store} {t : TrailState} {ws vs : WatchLists} {places spots : fin
     {broken : List Place} {quiet : Bool} {conflict : Option Place} {place : Place} {s : Stored}
     (c : IsComing k n t ws vs places spots head broken quiet conflict place s) where
   clauses-now : clauses_in n ≡ finite.insert (clauses_in k) place.0 (base_clause s)
-  clauses-now = clauses-added k n t ws head broken place s c.kept.ready c.come.fresh c.come.reordered c.come.distinct c.come.known
+  clauses-now = clauses-added k n t ws head broken place s c.kept.ready c.come.fresh c.come.reordered
+      c.come.distinct c.come.known
 
   fresh-clause : finite.get (clauses_in k) place.0 ≡ None
   fresh-clause = get-clauses_in k place.0 ∙ ap (option_map base_clause) c.come.fresh
@@ -167,7 +168,8 @@ module _ {k n : Store} {t : TrailState} {ws vs : WatchLists} {places spots : fin
 
   pub kept-rests : StandsAs t.assigned (lits_at n place.0) Rests → IsKeptBase n t vs spots head broken false None
   kept-rests stands = kept-open n t vs spots head broken false None
-      (subst (λ w. IsReady n t w head broken) (sym c.lists) (ready-rests k n t ws head broken place s c.kept.ready c.come.fresh c.come.reordered c.come.distinct c.come.known c.come.at stands))
+      (subst (λ w. IsReady n t w head broken) (sym c.lists) (ready-rests k n t ws head broken place s c.kept.ready
+      c.come.fresh c.come.reordered c.come.distinct c.come.known c.come.at stands))
       indexed-now refl refl
 
   pub kept-broken : (broken' : List Place) → broken' ≡ broken ++ place ∷ [] → AllFalse t.assigned (lits_at n place.0)
@@ -175,7 +177,8 @@ module _ {k n : Store} {t : TrailState} {ws vs : WatchLists} {places spots : fin
   kept-broken broken' is falses = kept-open n t vs spots head broken' false None
       (subst (IsReady n t vs head) (sym is)
       (subst (λ w. IsReady n t w head (broken ++ place ∷ [])) (sym c.lists)
-      (ready-broken k n t ws head broken place s c.kept.ready c.come.fresh c.come.reordered c.come.distinct c.come.known c.come.at falses)))
+      (ready-broken k n t ws head broken place s c.kept.ready c.come.fresh c.come.reordered c.come.distinct
+      c.come.known c.come.at falses)))
       indexed-now refl refl
 
   pub kept-forced : (u : TrailState) (l : Literal) → u ≡ with_forced t l place → StandsAs t.assigned
@@ -183,19 +186,22 @@ module _ {k n : Store} {t : TrailState} {ws vs : WatchLists} {places spots : fin
   kept-forced u l is stands = kept-open n u vs spots head broken false None
       (subst (λ x. IsReady n x vs head broken) (sym is)
       (subst (λ w. IsReady n (with_forced t l place) w head broken) (sym c.lists)
-      (ready-forced k n t ws head broken place s c.kept.ready c.come.fresh c.come.reordered c.come.distinct c.come.known c.come.at l stands)))
+      (ready-forced k n t ws head broken place s c.kept.ready c.come.fresh c.come.reordered c.come.distinct
+      c.come.known c.come.at l stands)))
       indexed-now refl refl
 
   -- what the clause forces, by its literals in either order
   forces-order : (l : Literal) → Forces (true_in t.assigned) (members s.lits) l → Forces (true_in t.assigned)
       (members (lits_at n place.0)) l
   forces-order l f = subst (λ e. Forces (true_in t.assigned) e l)
-      (λ i q. sym (clause-members k n t ws head broken place s c.kept.ready c.come.fresh c.come.reordered c.come.distinct c.come.known q) i) f
+      (λ i q. sym (clause-members k n t ws head broken place s c.kept.ready c.come.fresh c.come.reordered
+      c.come.distinct c.come.known q) i) f
 
   forces-back : (l : Literal) → Forces (true_in t.assigned) (members (lits_at n place.0)) l → Forces
       (true_in t.assigned) (members s.lits) l
   forces-back l f = subst (λ e. Forces (true_in t.assigned) e l)
-      (λ i q. clause-members k n t ws head broken place s c.kept.ready c.come.fresh c.come.reordered c.come.distinct c.come.known q i) f
+      (λ i q. clause-members k n t ws head broken place s c.kept.ready c.come.fresh c.come.reordered
+      c.come.distinct c.come.known q i) f
 
   abbrev was : BaseState
   was = record { clauses = clauses_in k; trail = t; quiet = quiet; conflict = conflict }
@@ -215,7 +221,8 @@ module _ {k n : Store} {t : TrailState} {ws vs : WatchLists} {places spots : fin
   pub added-rests : StandsAs t.assigned (lits_at n place.0) Rests → IsAdded was
       (record { clauses = clauses_in n; trail = t; quiet = false; conflict = None }) s.id s.lbd s.lits place
   added-rests stands = still-added (λ l f e. rests-forces t (lits_at n place.0) l
-      (clause-distinct k n t ws head broken place s c.kept.ready c.come.fresh c.come.reordered c.come.distinct c.come.known)
+      (clause-distinct k n t ws head broken place s c.kept.ready c.come.fresh c.come.reordered c.come.distinct
+      c.come.known)
       c.kept.ready.sound.consistent stands f e)
 
   pub added-broken : AllFalse t.assigned (lits_at n place.0) → IsAdded was

@@ -35,7 +35,8 @@ module _ (old new : ArenaState) (moves : finite.FinMap nat_cmp ℕ) (c : IsCompa
       (blocked-there (get_or (list_of ws l) i d).place.0 (get_or (list_of ws l) i d).blocker
       (kept.ready.blocked l i d low))
     where
-      blocked-there : (q : ℕ) (b : Literal) → members (lits_at old.clauses q) b ≡ true → IsSome (finite.get old.clauses q)
+      blocked-there : (q : ℕ) (b : Literal) → members (lits_at old.clauses q) b ≡ true → IsSome (finite.get
+          old.clauses q)
       blocked-there q b m = go (finite.get old.clauses q) m
         where
           go : (o : Option Stored) → members (unwrap_or o no_clause).lits b ≡ true → IsSome o
@@ -46,7 +47,8 @@ module _ (old new : ArenaState) (moves : finite.FinMap nat_cmp ℕ) (c : IsCompa
   pub reasons-moved : All (HasMovedReason moves) t.assigned
   reasons-moved = founded-moved no_literals t.assigned kept.ready.sound.founded
     where
-      founded-moved : (before : LiteralSet) (xs : List Assigned) → AreFounded (family (clauses_in old.clauses)) before xs →
+      founded-moved : (before : LiteralSet) (xs : List Assigned) → AreFounded (family (clauses_in old.clauses))
+          before xs →
           All (HasMovedReason moves) xs
       founded-moved before [] f = All-nil (HasMovedReason moves)
       founded-moved before (x ∷ xs) f = All-cons (HasMovedReason moves) x xs (one x.reason refl f.0)
@@ -77,7 +79,8 @@ module _ (old new : ArenaState) (moves : finite.FinMap nat_cmp ℕ) (c : IsCompa
       let h = kept.indexed.found id p e in
       moved-some old new moves c p.0 (some-base p.0 h.0 h.1)
     where
-      some-base : (q : ℕ) (b : BaseClause) → finite.get (clauses_in old.clauses) q ≡ Some b → IsSome (finite.get old.clauses q)
+      some-base : (q : ℕ) (b : BaseClause) → finite.get (clauses_in old.clauses) q ≡ Some b → IsSome (finite.get
+          old.clauses q)
       some-base q b is = go (finite.get old.clauses q) (sym (get-clauses_in old.clauses q) ∙ is)
         where
           go : (o : Option Stored) → option_map base_clause o ≡ Some b → IsSome o
@@ -101,7 +104,8 @@ module _ (old new : ArenaState) (moves : finite.FinMap nat_cmp ℕ) (c : IsCompa
           (moved-all old new moves c (list_of ws l) (kept.ready.blocked l) (watches-moved l));
       distinct = everywhere old new moves c (λ q c'. (i : ℕ) → occurs c' i ≤ 1) (λ p q e i. kept.ready.distinct p i)
           (λ q no' i. omega arith);
-      known = everywhere old new moves c (λ q c'. All (λ (l : Literal). l.index < t.vars) c') (λ p q e. kept.ready.known p)
+      known = everywhere old new moves c (λ q c'. All (λ (l : Literal). l.index < t.vars) c') (λ p q e.
+          kept.ready.known p)
           (λ q no'. All-nil (λ (l : Literal). l.index < t.vars));
       vars = vars ∙ kept.ready.vars;
       even = even ∙ kept.ready.even;
@@ -134,7 +138,8 @@ module _ (old new : ArenaState) (moves : finite.FinMap nat_cmp ℕ) (c : IsCompa
             [ inl e ↦ inl (ap (map (moved_place moves)) e) | inr e ↦ inr e ];
         false' = λ q h.
             let from = broken-from old new moves c broken q broken-moved h in
-            let was = kept.ready.broken'.false' from.0 (sym (moved-in old new moves c broken from.0 q from.1 broken-moved) ∙ h) in (
+            let was = kept.ready.broken'.false' from.0 (sym (moved-in old new moves c broken from.0 q from.1
+            broken-moved) ∙ h) in (
               there-new old new moves c from.0 q from.1,
               subst (AllFalse u.assigned) (sym (same-lits old new moves c from.0 q from.1))
                   (all-false (lits_at old.clauses from.0) was.1),
@@ -142,8 +147,10 @@ module _ (old new : ArenaState) (moves : finite.FinMap nat_cmp ℕ) (c : IsCompa
       };
     }
 
-    same-clause : (p q : ℕ) → finite.get moves p ≡ Some q → finite.get (clauses_in new.clauses) q ≡ finite.get (clauses_in old.clauses) p
-    same-clause p q e = get-clauses_in new.clauses q ∙ ap (option_map base_clause) (c.kept p q e) ∙ sym (get-clauses_in old.clauses p)
+    same-clause : (p q : ℕ) → finite.get moves p ≡ Some q → finite.get (clauses_in new.clauses) q ≡ finite.get
+        (clauses_in old.clauses) p
+    same-clause p q e = get-clauses_in new.clauses q ∙ ap (option_map base_clause) (c.kept p q e) ∙ sym
+        (get-clauses_in old.clauses p)
 
     indexed-moved : IsIndexed (clauses_in new.clauses) spots
     indexed-moved = record {
@@ -168,7 +175,8 @@ module _ (old new : ArenaState) (moves : finite.FinMap nat_cmp ℕ) (c : IsCompa
             let is : moved_place moves r ≡ p = ap (λ (o : Option Place). unwrap_or {T = Place} o p) e in
             let own = some-value (finite.get moves r.0) (index-moved id r f) in (
               h.0,
-              ap (finite.get (clauses_in new.clauses)) (ap (λ (y : Place). y.0) (sym is) ∙ place-is old new moves c r own.0 own.1) ∙
+              ap (finite.get (clauses_in new.clauses)) (ap (λ (y : Place). y.0) (sym is) ∙ place-is old new moves c
+                  r own.0 own.1) ∙
                   same-clause r.0 own.0 own.1 ∙ h.1,
               h.2,
             )
@@ -187,14 +195,21 @@ module _ (old new : ArenaState) (moves : finite.FinMap nat_cmp ℕ) (c : IsCompa
       };
     }
 
-    pub is-compacted : IsCompacted (record { clauses = clauses_in old.clauses; trail = t; quiet = quiet; conflict = conflict })
+    pub is-compacted : IsCompacted (record {
+      clauses = clauses_in old.clauses;
+      trail = t;
+      quiet = quiet;
+      conflict =
+          conflict;
+    })
         (record { clauses = clauses_in new.clauses; trail = u; quiet = quiet; conflict = None })
     is-compacted = record {
       moves = moves;
       moved = λ p. c.moved p ∙ same-some (finite.get old.clauses p) ∙ ap is_some (sym (get-clauses_in old.clauses p));
       kept = same-clause;
       apart = c.apart;
-      onto = λ q h. c.onto q (same-some (finite.get new.clauses q) ∙ ap is_some (sym (get-clauses_in new.clauses q)) ∙ h);
+      onto = λ q h. c.onto q (same-some (finite.get new.clauses q) ∙ ap is_some (sym (get-clauses_in new.clauses
+          q)) ∙ h);
       trail = refl;
       quiet = refl;
       conflict = refl;

@@ -155,7 +155,8 @@ rests-zero t (w ∷ o ∷ rest) (inr h) (inr two) =
     = two.1 in cc)
 
 -- and so did one that is false
-pub broken-zero : (t : TrailState) (e : List Literal) → (t.depth ≡ 0) ⊎ IsLearnt t e → AllFalse t.assigned e → t.depth ≡ 0
+pub broken-zero : (t : TrailState) (e : List Literal) → (t.depth ≡ 0) ⊎ IsLearnt t e → AllFalse t.assigned e →
+    t.depth ≡ 0
 broken-zero t e (inl z) s = z
 broken-zero t [] (inr h) s = absurd h
 broken-zero t (w ∷ []) (inr h) s = absurd h

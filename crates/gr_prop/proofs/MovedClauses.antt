@@ -24,7 +24,8 @@ moved-lit moves x = refl
 pub moved-level : (moves : finite.FinMap nat_cmp ℕ) (x : Assigned) → (moved_assigned moves x).level ≡ x.level
 moved-level moves x = refl
 
-pub moved-climbs : (moves : finite.FinMap nat_cmp ℕ) (level : ℕ) (xs : List Assigned) (depth : ℕ) → Climbs level xs depth
+pub moved-climbs : (moves : finite.FinMap nat_cmp ℕ) (level : ℕ) (xs : List Assigned) (depth : ℕ) → Climbs level xs
+    depth
     → Climbs level (map (moved_assigned moves) xs) depth
 moved-climbs moves level [] depth c = c
 moved-climbs moves level (x ∷ xs) depth c = (c.0 ∙ same x.reason, moved-climbs moves x.level xs depth c.1)
@@ -107,7 +108,8 @@ module _ (old new : ArenaState) (moves : finite.FinMap nat_cmp ℕ) (c : IsCompa
             ] refl
       ] refl
 
-  pub moved-count : (p q : ℕ) (list : List Watch) → finite.get moves p ≡ Some q → All (IsMovedFrom moves) list → count_in
+  pub moved-count : (p q : ℕ) (list : List Watch) → finite.get moves p ≡ Some q → All (IsMovedFrom moves) list →
+      count_in
       q (map (moved_watch moves) list) ≡ count_in p list
   moved-count p q [] e all = refl
   moved-count p q (w ∷ ws) e all =

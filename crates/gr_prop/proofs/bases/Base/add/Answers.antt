@@ -108,7 +108,8 @@ pub returns-in-Forced : goal.returns-in-Forced
 returns-in-Forced c =
     let g = (goal.at.returns-in-Forced c).After-assess in
     let a = (goal.at.returns-in-Forced c).After-arrange in
-    as-added g c.assign.new.self (added-forced (coming g (come a) (lacks a)) c.assign.new.self c.in-Forced.lit c.assign.ensures
+    as-added g c.assign.new.self (added-forced (coming g (come a) (lacks a)) c.assign.new.self c.in-Forced.lit
+    c.assign.ensures
     (stands g (Forced c.in-Forced.lit) c.in-Forced.is))
 
 pub returns-in-Rests : goal.returns-in-Rests

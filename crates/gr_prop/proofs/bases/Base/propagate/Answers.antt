@@ -5,7 +5,7 @@ use Rattle.gr_prop.specs.Watching.{IsReady}
 use Rattle.gr_prop.proofs.WalkSteps.{grown-itself}
 use Rattle.gr_prop.proofs.Rounds.{round-begins, round-on, ready-closed}
 use Rattle.gr_prop.proofs.Keeping.{decisions-grown, kept-open, kept-conflict, kept-quiet, false-at, false-derives, none-first}
-use Rattle.gr_prop.proofs.bases.Base.propagate.Answers.Queue.{broken, at-head, gone-is, stopped, stopped-broken, indexed-still, clauses-still, grown-still, found-there, found-false, ended}
+use Rattle.gr_prop.proofs.bases.Base.propagate.Answers.Queue.{decisions-still, broken, at-head, gone-is, stopped, stopped-broken, indexed-still, clauses-still, grown-still, found-there, found-false, ended}
 use Rattle.gr_prop.proofs.bases.Base.propagate.Goals.{After-negate-gone, After-put, After-loop-self, In-Some, In-Some-2}
 use Rattle.gr_prop.proofs.bases.Base.propagate.Goals as goal
 mod Queue
@@ -74,7 +74,7 @@ pub returns-in_err-place-clause-clauses : goal.returns-in_err-place-clause-claus
 returns-in_err-place-clause-clauses c = clauses-still (goal.at.returns-in_err-place-clause-clauses c).After-put
 
 pub returns-in_err-place-clause-decisions : goal.returns-in_err-place-clause-decisions
-returns-in_err-place-clause-decisions c = decisions-grown _ _ (grown-still (goal.at.returns-in_err-place-clause-decisions c).After-put)
+returns-in_err-place-clause-decisions c = decisions-still (goal.at.returns-in_err-place-clause-decisions c).After-put
 
 pub returns-in_err-place-clause-grown : goal.returns-in_err-place-clause-grown
 returns-in_err-place-clause-grown c = grown-still (goal.at.returns-in_err-place-clause-grown c).After-put
@@ -92,7 +92,7 @@ pub returns-in-Some-2-clause-clauses : goal.returns-in-Some-2-clause-clauses
 returns-in-Some-2-clause-clauses c = clauses-still (goal.at.returns-in-Some-2-clause-clauses c).After-put
 
 pub returns-in-Some-2-clause-decisions : goal.returns-in-Some-2-clause-decisions
-returns-in-Some-2-clause-decisions c = decisions-grown _ _ (grown-still (goal.at.returns-in-Some-2-clause-decisions c).After-put)
+returns-in-Some-2-clause-decisions c = decisions-still (goal.at.returns-in-Some-2-clause-decisions c).After-put
 
 pub returns-in-Some-2-clause-grown : goal.returns-in-Some-2-clause-grown
 returns-in-Some-2-clause-grown c = grown-still (goal.at.returns-in-Some-2-clause-grown c).After-put
@@ -135,7 +135,8 @@ invariant_of-self-2 c =
     let s = c.loop-self.self-inside in
     let i = c.loop-self.invariant in
     kept-quiet s.arena.clauses s.trail s.watches s.places s.head s.broken.items s.conflict
-    (subst (IsReady s.arena.clauses s.trail s.watches s.head) (sym i.none) i.ready) i.indexed (ended (goal.at.invariant_of-self-2 c).After-loop-self) i.none
+    (subst (IsReady s.arena.clauses s.trail s.watches s.head) (sym i.none) i.ready) i.indexed (ended
+    (goal.at.invariant_of-self-2 c).After-loop-self) i.none
     i.conflict
 
 pub returns-clause-clauses : goal.returns-clause-clauses
@@ -150,5 +151,9 @@ returns-clause-grown c = c.loop-self.invariant.grown
 pub returns-clause-ends : goal.returns-clause-ends
 returns-clause-ends c =
     let s = c.loop-self.self-inside in
-    let i = c.loop-self.invariant in
-    (refl, i.conflict, ready-closed s.arena.clauses s.trail s.watches s.head i.ready (ended (goal.at.returns-clause-ends c).After-loop-self))
+    let i = c.loop-self.invariant in (
+      refl,
+      i.conflict,
+      ready-closed s.arena.clauses s.trail s.watches s.head i.ready (ended
+          (goal.at.returns-clause-ends c).After-loop-self),
+    )

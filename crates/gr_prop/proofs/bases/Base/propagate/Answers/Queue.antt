@@ -5,11 +5,11 @@ use Rattle.std.specs.List.{slice_get}
 use Rattle.std.proofs.lemmas.List.{length-map}
 use Rattle.gr_logic.specs.Literals.{negation}
 use Rattle.gr_trail.specs.Trails.{Assigned}
-use Rattle.gr_prop.specs.Bases.{clauses_in}
+use Rattle.gr_prop.specs.Bases.{clauses_in, decisions}
 use Rattle.gr_prop.specs.BaseChanges.{IsGrown}
 use Rattle.gr_prop.specs.Watching.{lits_at, AllFalse, IsReady, IsIndexed}
 use Rattle.gr_prop.proofs.Rounds.{lit-at, round-stops}
-use Rattle.gr_prop.proofs.Keeping.{grown-on, first-broken}
+use Rattle.gr_prop.proofs.Keeping.{grown-on, first-broken, decisions-grown}
 use Rattle.gr_prop.proofs.bases.Base.propagate.Goals.{In-Some, After-negate-gone, After-put, In-Some-2, After-loop-self}
 
 -- the first clause that was false when it came in is false
@@ -61,6 +61,10 @@ clauses-still c = c.walk-found.ensures.progress.clauses ∙ c.loop-self.invarian
 pub grown-still : (c : After-put) → IsGrown c.args.self.now.trail c.walk-found.new.trail
 grown-still c = grown-on _ c.loop-self.self-inside.trail _ c.loop-self.invariant.grown
     c.walk-found.ensures.progress.grown
+
+pub decisions-still : (c : After-put) → decisions c.walk-found.new.trail.assigned
+    ≡ decisions c.args.self.now.trail.assigned
+decisions-still c = decisions-grown _ _ (grown-still c)
 
 -- the clause that the walk ended at is false
 pub found-there : (c : In-Some-2) → IsSome
