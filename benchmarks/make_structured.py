@@ -6,8 +6,8 @@
     make_structured.py register CNF [--bits N] [--steps N] [--taps N] [--seed N]
 
 multiplier: the Tseitin clauses of an array multiplier of two numbers of N bits, whose product is the given number.
-counter: a counter of N bits with an input that makes it count and one that clears it, unrolled over N steps from zero; it
-is to reach the target at the last step.
+counter: a counter of N bits with an input that makes it count and one that clears it, unrolled over N steps from zero;
+it is to reach the target at the last step.
 register: a shift register of N bits with an input, whose first bit becomes the parity of the input and of N drawn taps,
 unrolled over N steps from all zeros; it is to be all ones at the last step.
 """

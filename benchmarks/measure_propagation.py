@@ -3,11 +3,11 @@
 
     measure_propagation.py PROGRAM CNF[:ROUNDS].. [--runs N] [--core N] [--instructions]
 
-PROGRAM is the built crate gr_timing; ROUNDS is 100 where it is left out. The C program is built by gcc and by clang, where
-they are there, at -O3. Each run times all programs in turn on a formula, and takes off what the same program needs for no
-rounds. Lines for each formula: the processor time of each run, and the median and the range over the runs of the ratio to
-the faster C program of the same run. With --instructions valgrind counts each program's instructions too, over a tenth of
-the rounds, and the ratio is to the fewer.
+PROGRAM is the built crate gr_timing; ROUNDS is 100 where it is left out. The C program is built by gcc and by clang,
+where they are there, at -O3. Each run times all programs in turn on a formula, and takes off what the same program
+needs for no rounds. Lines for each formula: the processor time of each run, and the median and the range over the runs
+of the ratio to the faster C program of the same run. With --instructions valgrind counts each program's instructions
+too, which takes some fifty times as long, and the ratio is to the fewer.
 """
 import argparse
 import os
@@ -101,7 +101,7 @@ def main():
             rounds = int(number or 100)
             measure_time(programs, cnf, rounds, options.runs)
             if options.instructions:
-                measure_instructions(programs, cnf, max(1, rounds // 10))
+                measure_instructions(programs, cnf, rounds)
 
 
 if __name__ == "__main__":

@@ -1,6 +1,6 @@
-/* The loop `propagation` of the crate gr_timing in plain C: propagation by watched literals over a formula in DIMACS CNF,
-   from decisions that are drawn. Each step is the one that the crate gr_prop takes, in the same order, so that the checksums
-   are equal. Words: propagation FILE N. */
+/* The loop `propagation` of the crate gr_timing in plain C: propagation by watched literals over a formula in DIMACS
+   CNF, from decisions that are drawn. Each step is the one that the crate gr_prop takes, in the same order, so that the
+   checksums are equal. Words: propagation FILE N. */
 #include <stdint.h>
 #include <stdio.h>
 #include <stdlib.h>
@@ -84,7 +84,11 @@ static size_t propagate(struct base *b) {
             }
             uint64_t place = items[i].place;
             uint32_t *lits = words + place + HEAD;
-            uint32_t other = lits[0] ^ lits[1] ^ gone;
+            if (lits[0] == gone) {
+                lits[0] = lits[1];
+                lits[1] = gone;
+            }
+            uint32_t other = lits[0];
             uint8_t value = values[other];
             if (value == TRUE) {
                 items[i++].blocker = other;
@@ -94,7 +98,6 @@ static size_t propagate(struct base *b) {
             while (k < count && values[lits[k]] == FALSE) k++;
             if (k < count) {
                 uint32_t next = lits[k];
-                lits[0] = other;
                 lits[1] = next;
                 lits[k] = gone;
                 attach(b, next, place, other);

@@ -8,8 +8,8 @@ use gr_logic::{Clause, Formula, Normal, OutOfMemory, normal};
 use gr_prop::Base;
 use std::alloc::Global;
 
-/// A base with the formula's clauses, each literal where it stands first, without those that every assignment satisfies.
-/// The id of a clause is its number in the formula, counted from 1.
+/// A base with the formula's clauses, each literal where it stands first, without those that every assignment
+/// satisfies. The id of a clause is its number in the formula, counted from 1.
 pub fn base_of(alloc: Global, formula: &Formula) -> Result<Base, OutOfMemory>
     ensures vars { IfOk result (λ base. base.trail.vars ≡ formula.now.vars) }
     ensures ground { IfOk result (λ base. base.trail.depth ≡ 0) }

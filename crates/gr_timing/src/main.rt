@@ -1,7 +1,7 @@
 //! Loops over the arena, the trail, the watch lists and the base, to be timed from outside beside the same loops in C.
 //!
-//! Words: `arena N`, `trail N`, `watches N` or `propagation FILE N`. The loop is run N times over data that are the same
-//! in each run, and its checksum is printed.
+//! Words: `arena N`, `trail N`, `watches N` or `propagation FILE N`. The loop is run N times over data that are the
+//! same in each run, and its checksum is printed.
 #![tactic(auto)]
 
 mod arenas;

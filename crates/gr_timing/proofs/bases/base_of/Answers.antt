@@ -16,12 +16,13 @@ loop-clause-init c = (
 pub loop-clause-preserved : goal.loop-clause-preserved
 loop-clause-preserved c =
     let all = c.clauses-clause-items.ensures.clauses in
-    let i = c.loop-clause.clause-index in (
+    let i = c.loop-clause.clause-index in
+    let now = c.clause-item.result in (
       ap (λ n. n + 1) c.loop-clause.invariant.0,
-      taken-front c.loop-clause.base c.add.new.base c.args.formula.now.vars i c.loop-clause.id c.args.formula.now.clauses
-          c.clause-item.result c.loop-clause.invariant (subst (λ cs. i < length cs) all c.loop-clause-test.true)
-          (subst (λ cs. c.clause-item.result ≡ slice_index_or cs i c.clause-item.result) all c.clause-item.is)
-          c.in_ok-add.ensures,
+      taken-front c.loop-clause.base c.add.new.base c.args.formula.now.vars i c.loop-clause.id
+          c.args.formula.now.clauses now c.loop-clause.invariant
+          (subst (λ cs. i < length cs) all c.loop-clause-test.true)
+          (subst (λ cs. now ≡ slice_index_or cs i now) all c.clause-item.is) c.in_ok-add.ensures,
     )
 
 -- all clauses are taken
