@@ -20,7 +20,7 @@ use Rattle.gr_prop.specs.Watching.{Store, lits_at, bit, occurs, AllFalse, IsRead
 use Rattle.gr_prop.proofs.TrailSets.{or-first, or-second, decisions-up_to}
 use Rattle.gr_prop.proofs.Closed.{falsified-derives, founded-up_to}
 use Rattle.gr_prop.proofs.Stores.{family-there}
-use Rattle.gr_prop.proofs.Rounds.{levels-closed}
+use Rattle.gr_prop.proofs.Rounds.{levels-closed, ready-closed}
 
 -- the level of a literal that is true, but not at this level or below
 found-level : (xs : List Assigned) (l : Literal) (b level depth : ℕ) → Climbs level xs depth → true_in xs l ≡ true →
@@ -142,6 +142,9 @@ pub base-is : (k : Store) (t : TrailState) (ws : WatchLists) (places : finite.Fi
 base-is k t ws places head broken quiet conflict kept = record {
   founded = kept.ready.sound.founded;
   finished = λ level low. levels-closed k t ws head level broken kept.ready low;
+  closed = λ done.
+      let end = kept.ended.done done in
+      ready-closed k t ws head (subst (IsReady k t ws head) end.1 kept.ready) end.0;
   conflict = λ place is.
       let f = kept.ended.falsified place is in
       (members (lits_at k place.0), (family-there k place.0 f.0, f.1));

@@ -95,12 +95,13 @@ HasLiteralAt clauses assigned place level = (c : LiteralSet) × ((family clauses
 
 -- what is true of every base: each literal of the trail is a decision or forced by its reason from the
 -- literals before it; each level below the depth is the closure of the decisions up to it, without
--- conflict; a clause that was found false is false, above level zero by a literal of the present level;
--- no two clauses have one id
+-- conflict, and so is all of the trail where nothing is left to propagate; a clause that was found false
+-- is false, above level zero by a literal of the present level; no two clauses have one id
 pub record IsBase (b : BaseState) : Type 0 where
   pub founded : AreFounded (family b.clauses) no_literals b.trail.assigned
   pub finished : (level : ℕ) → level < b.trail.depth
       → IsUnitClosure (family b.clauses) (take level (decisions b.trail.assigned)) (up_to level b.trail.assigned)
+  pub closed : b.quiet ≡ true → IsUnitClosure (family b.clauses) (decisions b.trail.assigned) b.trail.assigned
   pub conflict : (place : Place) → b.conflict ≡ Some place → IsFalseAt b.clauses b.trail.assigned place
   pub present : (place : Place) → b.conflict ≡ Some place → 0 < b.trail.depth
       → HasLiteralAt b.clauses b.trail.assigned place b.trail.depth

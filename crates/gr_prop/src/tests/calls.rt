@@ -1,5 +1,6 @@
 // Calls of a base over the variables 1 to 6, each made where its condition holds.
-ghost use Rattle.std.specs.Prelude.{◌≡◌, ◌≢◌, ◌<◌, All, true, Some, IfNone, OnOk, IfOk};
+ghost use Rattle.std.specs.Prelude.{◌≡◌, ◌≢◌, ◌<◌, [], ◌∷◌, All, true, Some, IfNone, OnOk, IfOk};
+ghost use Rattle.gr_prop.specs.BaseChanges.{IsLearnt};
 
 use crate::Base;
 use crate::visits::holds;
@@ -72,6 +73,47 @@ pub(super) fn base_of(alloc: Global, clauses: &[Clause]) -> Result<Base, Fail>
         add(&mut base, alloc, id, clause)?;
     }
     Ok(base)
+}
+
+/// Whether the first literal has no value, and the second is false since the present level.
+fn is_taught(trail: &Trail, first: Lit, second: Lit) -> bool
+    requires first { first.index < trail.now.vars }
+    requires second { second.index < trail.now.vars }
+    ensures { result ≡ true → IsLearnt trail.now (first ∷ second ∷ []) }
+{
+    if trail.value(first).is_some() {
+        return false;
+    }
+    match trail.value(second) {
+        Some(false) => trail.level(second.var()) == trail.depth(),
+        _ => false,
+    }
+}
+
+/// Adds the clause of two literals, where a conflict may have taught it.
+pub(super) fn learn(
+    base: &mut Base,
+    alloc: Global,
+    id: u64,
+    first: Lit,
+    second: Lit,
+) -> Result<Place, Fail>
+    requires { base.old.trail.vars ≡ 6 }
+    ensures { OnOk result (base.new.trail.vars ≡ 6) }
+{
+    if first.index() >= 6 || second.index() >= 6 || first.index() == second.index() {
+        return Err(Fail::from("not two of the six variables"));
+    }
+    if base.find(id).is_some() {
+        return Err(Fail::from("the id is there"));
+    }
+    if !is_taught(base.trail(), first, second) {
+        return Err(Fail::from("no conflict teaches the clause"));
+    }
+    let mut clause = Clause::new(alloc);
+    clause.push(first)?;
+    clause.push(second)?;
+    Ok(base.add(id, 2, &clause)?)
 }
 
 /// Opens a level by a literal, where its variable has no value: whether it did.

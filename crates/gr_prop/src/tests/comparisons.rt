@@ -76,7 +76,7 @@ fn compare_levels(
 }
 
 /// Compares without the clause of an id, which was the last one, before and after the clauses were
-/// moved, and then with it again.
+/// moved, which gives its words back, and then with it again.
 fn compare_moved(
     base: &mut Base,
     alloc: Global,
@@ -92,7 +92,11 @@ fn compare_moved(
     };
     compare_levels(base, alloc, left, second, first)?;
     base.backtrack(0);
+    let words = base.arena().words();
     base.compact()?;
+    if base.arena().words() >= words {
+        return Err(differs("fewer words", left, &[]));
+    }
     compare_levels(base, alloc, left, first, second)?;
     base.backtrack(0);
     add(base, alloc, id, last)?;

@@ -1,15 +1,17 @@
 // Small bases against worked rows.
-ghost use Rattle.std.specs.Prelude.{◌≡◌};
+ghost use Rattle.std.specs.Prelude.{◌≡◌, OnOk};
 
-use crate::tests::calls::{base_of, clauses_of, decide, forced_by, has_lits, lit, settle};
+use crate::tests::calls::{base_of, clauses_of, decide, forced_by, has_lits, learn, lit, settle};
 use crate::{Base, Propagated};
 use gr_logic::{Lit, Place};
+use std::alloc::Global;
 use std::test::Fail;
 
 /// Decides -1 and -3, with propagation before and behind each: the place of the conflict, where there
 /// is one at the second level, and the trail was -1 and -2 at the first.
 fn second_level(base: &mut Base) -> Result<Option<Place>, Fail>
     requires { base.old.trail.vars ≡ 6 }
+    ensures { OnOk result (base.new.trail.vars ≡ 6) }
 {
     let Propagated::Quiet = base.propagate()? else {
         return Ok(None);
@@ -34,6 +36,34 @@ fn ends_in_a_conflict(rt: HostRuntime) -> Result<(), Fail> {
     let mut base = base_of(rt.alloc(), clauses.as_slice())?;
     let place = second_level(&mut base)?.ok_or("no conflict")?;
     assert!(rt; base.find(2) == Some(place) || base.find(3) == Some(place));
+    Ok(())
+}
+
+/// Goes back to the first level and adds what the conflict taught: the trail, where nothing is false then.
+fn trail_with_learnt(base: &mut Base, alloc: Global) -> Result<Vec<Lit>, Fail>
+    requires { base.old.trail.vars ≡ 6 }
+{
+    if base.trail().depth() != 2 {
+        return Err(Fail::from("not at the second level"));
+    }
+    base.backtrack(1);
+    let place = learn(base, alloc, 4, lit(3)?, lit(1)?)?;
+    if forced_by(base.trail(), place) != Some(lit(3)?) {
+        return Err(Fail::from("nothing is forced"));
+    }
+    let Propagated::Quiet = base.propagate()? else {
+        return Err(Fail::from("a conflict"));
+    };
+    Ok(Vec::from_slice(alloc, base.trail().lits())?)
+}
+
+#[test]
+fn adds_what_a_conflict_taught(rt: HostRuntime) -> Result<(), Fail> {
+    let clauses = clauses_of(rt.alloc(), "1 -2 0 1 2 3 4 0 1 2 3 -4 0")?;
+    let mut base = base_of(rt.alloc(), clauses.as_slice())?;
+    second_level(&mut base)?.ok_or("no conflict")?;
+    let trail = trail_with_learnt(&mut base, rt.alloc())?;
+    assert_eq!(rt; trail.as_slice(), [lit(-1)?, lit(-2)?, lit(3)?].as_slice());
     Ok(())
 }
 
