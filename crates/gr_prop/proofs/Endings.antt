@@ -1,5 +1,6 @@
 -- how a visit ends
-use Rattle.std.proofs.Common.{◌≡◌, ◌≢◌, ℕ, ◌<◌, ◌≤◌, true, false, ◌||◌, List, [], ◌∷◌, get_or, set, length, refl, sym, ap, ◌∙◌, subst, inl, inr, arith, ◌==◌, zero, suc}
+use Rattle.std.proofs.Common.{◌≡◌, ◌≢◌, ℕ, ◌<◌, ◌≤◌, true, false, ◌||◌, List, [], ◌∷◌, get_or, set, length, refl, sym, ap, ◌∙◌, subst, inl, inr, arith, ◌==◌, zero, suc, get_or-set_same}
+use Rattle.std.proofs.lemmas.List.{set-set, set-get_or}
 use Rattle.std.specs.List.{swap}
 use Rattle.std.proofs.lemmas.Bool.Decides.{nat_tests}
 use Rattle.gr_logic.specs.Literals.{Literal, negation, same_literal}
@@ -81,6 +82,16 @@ moved-is c d first gone rest k x is low at high e = go k low (at ∙ ap (λ s. g
         other [] j high at = absurd (omega arith)
         other (y ∷ ys) zero high at = sym at
         other (y ∷ ys) (suc i) high at = other ys i (omega arith) at
+
+-- two literals that change places twice are where they were
+pub swapped-back : (first gone : Literal) (rest : List Literal) (k : ℕ) → 2 ≤ k → k < suc (suc (length rest))
+    → swap (swap (first ∷ gone ∷ rest) 1 k) 1 k ≡ first ∷ gone ∷ rest
+swapped-back first gone rest zero low high = absurd (omega arith)
+swapped-back first gone rest (suc zero) low high = absurd (omega arith)
+swapped-back first gone rest (suc (suc j)) low high =
+    ap (λ y. first ∷ y ∷ set (set rest j gone) j (get_or rest j first))
+    (get_or-set_same rest j gone first (omega arith))
+    ∙ ap (λ r. first ∷ gone ∷ r) (set-set rest j gone (get_or rest j first) ∙ set-get_or rest j first)
 
 pub watched-long : (c : List Literal) (gone : Literal) → IsWatchedIn c gone → 2 ≤ length c
 watched-long [] gone w = absurd w

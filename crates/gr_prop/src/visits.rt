@@ -93,15 +93,19 @@ pub(crate) fn visit(
     match find_free(arena.lits(place), trail, 2) {
         Some(k) => {
             let next = arena.lits(place)[k];
-            // The watch is attached first: where memory is wanting, only the order has changed.
-            watches.attach(
+            // The clause is at hand, and the end of the other list may not be: written first, it does not wait.
+            arena.swap(place, 1, k);
+            let moved = watches.attach(
                 next,
                 Watch {
                     place,
                     blocker: other,
                 },
-            )?;
-            arena.swap(place, 1, k);
+            );
+            if let Err(wanting) = moved {
+                arena.swap(place, 1, k);
+                return Err(wanting);
+            }
             Ok(Ending::Moves)
         }
         None => {

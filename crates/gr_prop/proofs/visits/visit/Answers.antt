@@ -6,9 +6,11 @@ use Rattle.gr_prop.specs.Watching.{lits_at}
 use Rattle.gr_prop.specs.Visits.{IsReordered, OthersFalse}
 use Rattle.gr_prop.proofs.Stores.{swapped-reordered, lits-swapped, reordered-on}
 use Rattle.gr_prop.proofs.Endings.{others-false, all-false, moved-is}
+use Rattle.gr_prop.proofs.visits.visit.Answers.Swapped.{once, swapped-high, back-reordered, back-turned}
 use Rattle.gr_prop.proofs.visits.visit.Answers.Watched.{all-known, other-is, other-known, next-high, next-is, others}
-use Rattle.gr_prop.proofs.visits.visit.Goals.{After-index-lits-0, After-index-lits-k, In-None}
+use Rattle.gr_prop.proofs.visits.visit.Goals.{After-index-lits-0, After-index-lits-k, After-swap, In-None}
 use Rattle.gr_prop.proofs.visits.visit.Goals as goal
+mod Swapped
 mod Watched
 
 pub holds-requires : goal.holds-requires
@@ -27,10 +29,10 @@ pub find_free-requires-clause-known : goal.find_free-requires-clause-known
 find_free-requires-clause-known c = subst (All (λ (l : Literal). l.index < c.args.trail.now.vars))
     (sym c.lits-2.ensures) (all-known (goal.at.find_free-requires-clause-known c).After-index-lits-0)
 
-pub attach-requires : goal.attach-requires
-attach-requires c =
-    let k = (goal.at.attach-requires c).After-index-lits-k in
-    let all = all-known (goal.at.attach-requires c).After-index-lits-0 in
+pub attach-moved-requires : goal.attach-moved-requires
+attach-moved-requires c =
+    let k = (goal.at.attach-moved-requires c).After-index-lits-k in
+    let all = all-known (goal.at.attach-moved-requires c).After-index-lits-0 in
     subst (λ n. c.index-lits-k.result.index < n) (sym c.requires.vars)
     (subst (λ (l : Literal). l.index < c.args.trail.now.vars) (sym (next-is k))
     (all c.in-Some.k c.index-lits-k.result (next-high k)))
@@ -57,12 +59,31 @@ returns-then-holds-2-clause-ok c =
 pub assign-requires-clause-within : goal.assign-requires-clause-within
 assign-requires-clause-within c = other-known (goal.at.assign-requires-clause-within c).After-index-lits-0
 
-pub returns-in_ok-attach-in-Some-clause-ok : goal.returns-in_ok-attach-in-Some-clause-ok
-returns-in_ok-attach-in-Some-clause-ok c =
+pub swap-requires-in-Err-clause-there : goal.swap-requires-in-Err-clause-there
+swap-requires-in-Err-clause-there c = (once (goal.at.swap-requires-in-Err-clause-there c).After-swap).there
+
+pub swap-requires-in-Err-clause-first : goal.swap-requires-in-Err-clause-first
+swap-requires-in-Err-clause-first c =
+    let high = swapped-high (goal.at.swap-requires-in-Err-clause-first c).After-swap in
+    omega (arith, high, c.in-Some.ensures.low)
+
+pub swap-requires-in-Err-clause-second : goal.swap-requires-in-Err-clause-second
+swap-requires-in-Err-clause-second c = swapped-high (goal.at.swap-requires-in-Err-clause-second c).After-swap
+
+pub returns-in-Err-clause-err : goal.returns-in-Err-clause-err
+returns-in-Err-clause-err c = record {
+  reordered = back-reordered c;
+  turned = back-turned c;
+  trail = refl;
+  lists = c.in-Err.ensures.err;
+}
+
+pub returns-in_default-clause-ok : goal.returns-in_default-clause-ok
+returns-in_default-clause-ok c =
     let turned = c.bring_second.ensures.turned in
-    let first-is = other-is (goal.at.returns-in_ok-attach-in-Some-clause-ok c).After-index-lits-0 in
-    let high = next-high (goal.at.returns-in_ok-attach-in-Some-clause-ok c).After-index-lits-k in
-    let is = next-is (goal.at.returns-in_ok-attach-in-Some-clause-ok c).After-index-lits-k in
+    let first-is = other-is (goal.at.returns-in_default-clause-ok c).After-index-lits-0 in
+    let high = next-high (goal.at.returns-in_default-clause-ok c).After-index-lits-k in
+    let is = next-is (goal.at.returns-in_default-clause-ok c).After-index-lits-k in
     let low : 2 ≤ c.in-Some.k = c.in-Some.ensures.low in
     let moved = moved-is _ (lits_at c.swap.new.self.clauses c.args.place.0) turned.first c.args.gone turned.rest
     c.in-Some.k c.index-lits-k.result turned.is low is high
@@ -70,10 +91,7 @@ returns-in_ok-attach-in-Some-clause-ok c =
     c.args.place.0 1 c.in-Some.k) in
     record {
       reordered = reordered-on _ c.bring_second.new.arena.clauses _ c.args.place.0 c.bring_second.ensures.reordered
-          (subst (λ k. IsReordered c.bring_second.new.arena.clauses k c.args.place.0)
-          (sym (ap (λ a. a.clauses) c.swap.ensures))
-          (swapped-reordered c.bring_second.new.arena.clauses c.args.place.0 1 c.in-Some.k
-          c.bring_second.ensures.reordered.there (omega arith) high));
+          (once (goal.at.returns-in_default-clause-ok c).After-swap);
       first = turned.first;
       next = c.index-lits-k.result;
       rest = moved.0;
@@ -85,7 +103,7 @@ returns-in_ok-attach-in-Some-clause-ok c =
           (sym c.lits-2.ensures)
           ∙ c.in-Some.ensures.free c.index-lits-k.result;
       trail = refl;
-      lists = c.in_ok-attach-in-Some.ensures.ok
+      lists = c.in_default.ensures.ok
           ∙ ap (λ l. with_list c.args.watches.now c.index-lits-k.result
           (list_of c.args.watches.now c.index-lits-k.result ++ (record { place = c.args.place; blocker = l }) ∷ []))
           first-is;
