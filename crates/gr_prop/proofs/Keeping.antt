@@ -12,7 +12,8 @@ use Rattle.gr_logic.specs.declared.places.Place.{Place}
 use Rattle.gr_trail.specs.Trails.{TrailState}
 use Rattle.gr_watch.specs.WatchLists.{WatchLists}
 use Rattle.gr_prop.specs.Bases.{clauses_in, family, decisions, IsFalseAt}
-use Rattle.gr_prop.specs.BaseChanges.{IsGrown, IsForcedAt}
+use Rattle.gr_prop.specs.BaseChanges.{IsGrown, IsForcedAt, Ends}
+use Rattle.gr_prop.specs.declared.bases.Propagated.TheVariants.{Conflict}
 use Rattle.gr_prop.specs.Watching.{Store, lits_at, AllFalse, IsReady, IsIndexed, IsKeptBase, is_in}
 use Rattle.gr_prop.proofs.Closed.{falsified-derives}
 use Rattle.gr_prop.proofs.Stores.{family-there}
@@ -91,6 +92,18 @@ first-broken (p ∷ ps) place e =
     let is : p ≡ place = ap (λ (o : Option Place). unwrap_or {T = Place} o p) e in
     let same : nat_eq p.0 p.0 ≡ true = grind (arith, nat_tests) in
     ap (λ b. b || is_in ps place.0) (subst (λ (q : Place). nat_eq p.0 q.0 ≡ true) is same)
+
+-- so propagation ends at it
+pub ends-false : (k : Store) (t : TrailState) (ws : WatchLists) (head : ℕ) (broken : List Place) (quiet : Bool)
+    (place : Place) → quiet ≡ false → IsReady k t ws head broken → IsSome (finite.get k place.0)
+    → AllFalse t.assigned (lits_at k place.0)
+    → Ends (Conflict place) (record { clauses = clauses_in k; trail = t; quiet = quiet; conflict = Some place })
+ends-false k t ws head broken quiet place going ready there falses = (
+  going,
+  refl,
+  false-at k t place there falses,
+  false-derives k t ws head broken place ready there falses,
+)
 
 pub none-first : (broken : List Place) → slice_get broken 0 ≡ None → broken ≡ []
 none-first [] e = refl

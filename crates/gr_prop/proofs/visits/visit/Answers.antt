@@ -3,11 +3,11 @@ use Rattle.gr_logic.specs.Literals.{Literal, negation}
 use Rattle.gr_trail.specs.Trails.{true_in}
 use Rattle.gr_watch.specs.WatchLists.{list_of, with_list}
 use Rattle.gr_prop.specs.Watching.{lits_at}
-use Rattle.gr_prop.specs.Visits.{IsReordered, OthersFalse}
-use Rattle.gr_prop.proofs.Stores.{swapped-reordered, lits-swapped, reordered-on}
-use Rattle.gr_prop.proofs.Endings.{others-false, all-false, moved-is}
-use Rattle.gr_prop.proofs.visits.visit.Answers.Swapped.{once, swapped-high, back-reordered, back-turned}
-use Rattle.gr_prop.proofs.visits.visit.Answers.Watched.{all-known, other-is, other-known, next-high, next-is, others}
+use Rattle.gr_prop.specs.Visits.{OthersFalse}
+use Rattle.gr_prop.proofs.Stores.{reordered-on}
+use Rattle.gr_prop.proofs.Endings.{all-false}
+use Rattle.gr_prop.proofs.visits.visit.Answers.Swapped.{once, swapped-high, next-second, back-reordered, back-turned}
+use Rattle.gr_prop.proofs.visits.visit.Answers.Watched.{all-known, other-is, other-known, next-is, next-known, others}
 use Rattle.gr_prop.proofs.visits.visit.Goals.{After-index-lits-0, After-index-lits-k, After-swap, In-None}
 use Rattle.gr_prop.proofs.visits.visit.Goals as goal
 mod Swapped
@@ -30,12 +30,8 @@ find_free-requires-clause-known c = subst (All (λ (l : Literal). l.index < c.ar
     (sym c.lits-2.ensures) (all-known (goal.at.find_free-requires-clause-known c).After-index-lits-0)
 
 pub attach-moved-requires : goal.attach-moved-requires
-attach-moved-requires c =
-    let k = (goal.at.attach-moved-requires c).After-index-lits-k in
-    let all = all-known (goal.at.attach-moved-requires c).After-index-lits-0 in
-    subst (λ n. c.index-lits-k.result.index < n) (sym c.requires.vars)
-    (subst (λ (l : Literal). l.index < c.args.trail.now.vars) (sym (next-is k))
-    (all c.in-Some.k c.index-lits-k.result (next-high k)))
+attach-moved-requires c = subst (λ n. c.index-lits-k.result.index < n) (sym c.requires.vars)
+    (next-known (goal.at.attach-moved-requires c).After-index-lits-k)
 
 pub holds-requires-in-None : goal.holds-requires-in-None
 holds-requires-in-None c = subst (λ (l : Literal). l.index < c.args.trail.now.vars) (sym c.negate.ensures)
@@ -64,8 +60,7 @@ swap-requires-in-Err-clause-there c = (once (goal.at.swap-requires-in-Err-clause
 
 pub swap-requires-in-Err-clause-first : goal.swap-requires-in-Err-clause-first
 swap-requires-in-Err-clause-first c =
-    let high = swapped-high (goal.at.swap-requires-in-Err-clause-first c).After-swap in
-    omega (arith, high, c.in-Some.ensures.low)
+    omega (arith, swapped-high (goal.at.swap-requires-in-Err-clause-first c).After-swap, c.in-Some.ensures.low)
 
 pub swap-requires-in-Err-clause-second : goal.swap-requires-in-Err-clause-second
 swap-requires-in-Err-clause-second c = swapped-high (goal.at.swap-requires-in-Err-clause-second c).After-swap
@@ -81,17 +76,12 @@ returns-in-Err-clause-err c = record {
 pub returns-in_default-clause-ok : goal.returns-in_default-clause-ok
 returns-in_default-clause-ok c =
     let turned = c.bring_second.ensures.turned in
-    let first-is = other-is (goal.at.returns-in_default-clause-ok c).After-index-lits-0 in
-    let high = next-high (goal.at.returns-in_default-clause-ok c).After-index-lits-k in
     let is = next-is (goal.at.returns-in_default-clause-ok c).After-index-lits-k in
-    let low : 2 ≤ c.in-Some.k = c.in-Some.ensures.low in
-    let moved = moved-is _ (lits_at c.swap.new.self.clauses c.args.place.0) turned.first c.args.gone turned.rest
-    c.in-Some.k c.index-lits-k.result turned.is low is high
-    (ap (λ a. lits_at a.clauses c.args.place.0) c.swap.ensures ∙ lits-swapped c.bring_second.new.arena.clauses
-    c.args.place.0 1 c.in-Some.k) in
+    let swapped = (goal.at.returns-in_default-clause-ok c).After-swap in
+    let moved = next-second swapped in
     record {
       reordered = reordered-on _ c.bring_second.new.arena.clauses _ c.args.place.0 c.bring_second.ensures.reordered
-          (once (goal.at.returns-in_default-clause-ok c).After-swap);
+          (once swapped);
       first = turned.first;
       next = c.index-lits-k.result;
       rest = moved.0;
@@ -106,7 +96,7 @@ returns-in_default-clause-ok c =
       lists = c.in_default.ensures.ok
           ∙ ap (λ l. with_list c.args.watches.now c.index-lits-k.result
           (list_of c.args.watches.now c.index-lits-k.result ++ (record { place = c.args.place; blocker = l }) ∷ []))
-          first-is;
+          (other-is (goal.at.returns-in_default-clause-ok c).After-index-lits-0);
     }
 
 pub returns-else-holds-2-clause-ok : goal.returns-else-holds-2-clause-ok

@@ -3,10 +3,9 @@ use Rattle.std.specs.List.{slice_get}
 use Rattle.gr_prop.specs.BaseChanges.{IsGrown}
 use Rattle.gr_prop.specs.Watching.{IsReady}
 use Rattle.gr_prop.proofs.WalkSteps.{grown-itself}
-use Rattle.gr_prop.proofs.Rounds.{round-begins, round-on, ready-closed}
-use Rattle.gr_prop.proofs.Keeping.{decisions-grown, kept-open, kept-conflict, kept-quiet, false-at, false-derives, none-first}
-use Rattle.gr_prop.proofs.bases.Base.propagate.Answers.Queue.{decisions-still, broken, at-head, gone-is, stopped, stopped-broken, indexed-still, clauses-still, grown-still, found-there, found-false, ended}
-use Rattle.gr_prop.proofs.bases.Base.propagate.Goals.{After-negate-gone, After-put, After-loop-self, In-Some, In-Some-2}
+use Rattle.gr_prop.proofs.Keeping.{decisions-grown, kept-open, kept-conflict, kept-quiet, ends-false}
+use Rattle.gr_prop.proofs.bases.Base.propagate.Answers.Queue.{decisions-still, broken, none-broken, gone-known, walks, goes-on, stopped, stopped-broken, indexed-still, clauses-still, grown-still, found-there, found-false, ended, closes}
+use Rattle.gr_prop.proofs.bases.Base.propagate.Goals.{After-negate-gone, After-take-list, After-put, After-loop-self, In-Some, In-Some-2, In-None, In_default}
 use Rattle.gr_prop.proofs.bases.Base.propagate.Goals as goal
 mod Queue
 
@@ -20,20 +19,14 @@ invariant_of-self c =
 pub returns-in-Some-clause-ends : goal.returns-in-Some-clause-ends
 returns-in-Some-clause-ends c =
     let s = c.self.inside in
-    let b = broken (goal.at.returns-in-Some-clause-ends c).In-Some in (
-      refl,
-      refl,
-      false-at s.arena.clauses s.trail c.in-Some.place b.0 b.1,
-      false-derives s.arena.clauses s.trail s.watches s.head s.broken.items c.in-Some.place c.self.invariant.ready
-          b.0 b.1,
-    )
+    let b = broken (goal.at.returns-in-Some-clause-ends c).In-Some in
+    ends-false s.arena.clauses s.trail s.watches s.head s.broken.items false c.in-Some.place refl
+    c.self.invariant.ready b.0 b.1
 
 pub loop-self-init : goal.loop-self-init
 loop-self-init c =
     let s = c.self.inside in
-    let none : s.broken.items ≡ [] = none-first s.broken.items
-    (sym (c.copied.ensures ∙ c.first.ensures.value ∙ ap (λ xs. slice_get xs 0) c.deref.ensures.value) ∙
-    c.in_default.is) in
+    let none = none-broken (goal.at.loop-self-init c).In_default in
     record {
       ready = subst (IsReady s.arena.clauses s.trail s.watches s.head) none c.self.invariant.ready;
       none = none;
@@ -45,22 +38,10 @@ loop-self-init c =
     }
 
 pub take-list-requires : goal.take-list-requires
-take-list-requires c =
-    let s = c.loop-self.self-inside in
-    let g = (goal.at.take-list-requires c).After-negate-gone in
-    let x = at-head g in
-    let walk = round-begins s.arena.clauses s.trail s.watches _ _ s.head x.0 c.negate-gone.result
-    c.loop-self.invariant.ready x.1.1.1 x.1.0 (gone-is g) refl refl in
-    subst (λ n. c.negate-gone.result.index < n) (sym c.loop-self.invariant.ready.vars) walk.low
+take-list-requires c = gone-known (goal.at.take-list-requires c).After-negate-gone
 
 pub walk-found-requires : goal.walk-found-requires
-walk-found-requires c =
-    let s = c.loop-self.self-inside in
-    let g = (goal.at.walk-found-requires c).After-negate-gone in
-    let x = at-head g in
-    round-begins s.arena.clauses s.trail s.watches c.take-list.new.self c.take-list.result.items s.head x.0
-    c.negate-gone.result c.loop-self.invariant.ready x.1.1.1 x.1.0 (gone-is g) c.take-list.ensures.rest
-    c.take-list.ensures.list
+walk-found-requires c = walks (goal.at.walk-found-requires c).After-take-list
 
 pub invariant_of-self-in_err-place : goal.invariant_of-self-in_err-place
 invariant_of-self-in_err-place c =
@@ -99,29 +80,17 @@ returns-in-Some-2-clause-grown c = grown-still (goal.at.returns-in-Some-2-clause
 
 pub returns-in-Some-2-clause-ends : goal.returns-in-Some-2-clause-ends
 returns-in-Some-2-clause-ends c =
-    let k = c.walk-found.new.arena.clauses in
-    let t = c.walk-found.new.trail in
     let p = (goal.at.returns-in-Some-2-clause-ends c).After-put in
-    let f = (goal.at.returns-in-Some-2-clause-ends c).In-Some-2 in (
-      c.loop-self.invariant.quiet,
-      refl,
-      false-at k t c.in-Some-2.place (found-there f) (found-false f),
-      false-derives k t c.put.new.self c.loop-self.self-inside.head [] c.in-Some-2.place (stopped p) (found-there f)
-          (found-false f),
-    )
+    let f = (goal.at.returns-in-Some-2-clause-ends c).In-Some-2 in
+    ends-false c.walk-found.new.arena.clauses c.walk-found.new.trail c.put.new.self c.loop-self.self-inside.head []
+    c.loop-self.self-inside.quiet c.in-Some-2.place c.loop-self.invariant.quiet (stopped p) (found-there f)
+    (found-false f)
 
 pub loop-self-preserved : goal.loop-self-preserved
 loop-self-preserved c =
-    let s = c.loop-self.self-inside in
-    let w = c.walk-found.ensures in
-    let g = (goal.at.loop-self-preserved c).After-negate-gone in
     let p = (goal.at.loop-self-preserved c).After-put in
-    let x = at-head g in
     record {
-      ready = round-on s.arena.clauses c.walk-found.new.arena.clauses s.trail c.walk-found.new.trail s.watches
-          c.walk-found.new.watches c.put.new.self c.walk-found.new.list.items c.negate-gone.result s.head x.0
-          c.loop-self.invariant.ready x.1.1.1 x.1.0 (gone-is g) w.progress w.walking c.put.ensures
-          (rw c.in-None.is at c.in_ok-place.ensures.visited);
+      ready = goes-on (goal.at.loop-self-preserved c).In-None;
       none = c.loop-self.invariant.none;
       indexed = indexed-still p;
       clauses = clauses-still p;
@@ -135,9 +104,8 @@ invariant_of-self-2 c =
     let s = c.loop-self.self-inside in
     let i = c.loop-self.invariant in
     kept-quiet s.arena.clauses s.trail s.watches s.places s.head s.broken.items s.conflict
-    (subst (IsReady s.arena.clauses s.trail s.watches s.head) (sym i.none) i.ready) i.indexed (ended
-    (goal.at.invariant_of-self-2 c).After-loop-self) i.none
-    i.conflict
+    (subst (IsReady s.arena.clauses s.trail s.watches s.head) (sym i.none) i.ready) i.indexed
+    (ended (goal.at.invariant_of-self-2 c).After-loop-self) i.none i.conflict
 
 pub returns-clause-clauses : goal.returns-clause-clauses
 returns-clause-clauses c = c.loop-self.invariant.clauses
@@ -149,11 +117,4 @@ pub returns-clause-grown : goal.returns-clause-grown
 returns-clause-grown c = c.loop-self.invariant.grown
 
 pub returns-clause-ends : goal.returns-clause-ends
-returns-clause-ends c =
-    let s = c.loop-self.self-inside in
-    let i = c.loop-self.invariant in (
-      refl,
-      i.conflict,
-      ready-closed s.arena.clauses s.trail s.watches s.head i.ready (ended
-          (goal.at.returns-clause-ends c).After-loop-self),
-    )
+returns-clause-ends c = (refl, c.loop-self.invariant.conflict, closes (goal.at.returns-clause-ends c).After-loop-self)

@@ -1,12 +1,13 @@
 -- the clause whose next watched literal has changed places with the false one
-use Rattle.std.proofs.Common.{◌≡◌, ◌<◌, ◌∷◌, length, sym, ap, ◌∙◌, subst, arith}
+use Rattle.std.proofs.Common.{◌≡◌, ◌<◌, ◌∷◌, List, length, sym, ap, ◌∙◌, subst, arith}
 use Rattle.std.specs.List.{swap}
 use Rattle.std.proofs.lemmas.List.Sorted.{length_permutation}
+use Rattle.gr_logic.specs.Literals.{Literal}
 use Rattle.gr_prop.specs.Watching.{lits_at}
 use Rattle.gr_prop.specs.Visits.{IsReordered, IsTurned}
 use Rattle.gr_prop.proofs.Stores.{swapped-reordered, lits-swapped, reordered-on}
-use Rattle.gr_prop.proofs.Endings.{swapped-back}
-use Rattle.gr_prop.proofs.visits.visit.Answers.Watched.{next-high}
+use Rattle.gr_prop.proofs.Endings.{moved-is, swapped-back}
+use Rattle.gr_prop.proofs.visits.visit.Answers.Watched.{next-high, next-is}
 use Rattle.gr_prop.proofs.visits.visit.Goals.{After-index-lits-k, After-swap, After-swap-in-Err}
 use Rattle.gr_prop.proofs.visits.visit.Goals as goal
 
@@ -26,6 +27,15 @@ pub lits-once : (c : After-swap) → lits_at c.swap.new.self.clauses c.args.plac
 lits-once c =
     ap (λ a. lits_at a.clauses c.args.place.0) c.swap.ensures
     ∙ lits-swapped c.bring_second.new.arena.clauses c.args.place.0 1 c.in-Some.k
+
+-- the next watched literal is the second now
+pub next-second : (c : After-swap) → (left : List Literal) × (lits_at c.swap.new.self.clauses c.args.place.0
+    ≡ c.bring_second.ensures.turned.first ∷ c.index-lits-k.result ∷ left)
+next-second c =
+    let turned = c.bring_second.ensures.turned in
+    let k = (goal.at.After-swap c).After-index-lits-k in
+    moved-is _ (lits_at c.swap.new.self.clauses c.args.place.0) turned.first c.args.gone turned.rest c.in-Some.k
+    c.index-lits-k.result turned.is c.in-Some.ensures.low (next-is k) (next-high k) (lits-once c)
 
 -- and the false one is among them
 pub swapped-high : (c : After-swap) → c.in-Some.k < length (lits_at c.swap.new.self.clauses c.args.place.0)

@@ -6,6 +6,7 @@ use Rattle.gr_prop.specs.Watching.{lits_at}
 use Rattle.gr_prop.specs.Visits.{OthersFalse}
 use Rattle.gr_prop.proofs.Endings.{head-is, others-false}
 use Rattle.gr_prop.proofs.visits.visit.Goals.{After-index-lits-0, After-index-lits-k, In-None}
+use Rattle.gr_prop.proofs.visits.visit.Goals as goal
 
 -- the literals of the clause are known, in their new order
 pub all-known : (c : After-index-lits-0) → All (λ (l : Literal). l.index < c.args.trail.now.vars)
@@ -34,6 +35,10 @@ next-high c = subst (λ s. c.in-Some.k < length s) c.lits-2.ensures c.in-Some.en
 pub next-is : (c : After-index-lits-k) → c.index-lits-k.result
     ≡ get_or (lits_at c.bring_second.new.arena.clauses c.args.place.0) c.in-Some.k c.index-lits-k.result
 next-is c = c.index-lits-k.is ∙ ap (λ s. get_or s c.in-Some.k c.index-lits-k.result) c.lits-in-Some.ensures
+
+pub next-known : (c : After-index-lits-k) → c.index-lits-k.result.index < c.args.trail.now.vars
+next-known c = subst (λ (l : Literal). l.index < c.args.trail.now.vars) (sym (next-is c))
+    (all-known (goal.at.After-index-lits-k c).After-index-lits-0 c.in-Some.k c.index-lits-k.result (next-high c))
 
 -- where there is none, all but the first are false
 pub others : (c : In-None) → OthersFalse c.args.trail.now.assigned

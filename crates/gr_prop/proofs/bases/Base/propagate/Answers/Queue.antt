@@ -1,16 +1,18 @@
 -- a round of propagation, and how the rounds end
-use Rattle.std.proofs.Common.{◌≡◌, ◌≤◌, ◌<◌, length, [], IsSome, get_or, sym, ap, ◌∙◌, subst}
+use Rattle.std.proofs.Common.{◌≡◌, ◌≤◌, ◌<◌, ◌+◌, length, [], IsSome, get_or, refl, sym, ap, ◌∙◌, subst}
 use Rattle.std.specs.FinMap as finite
 use Rattle.std.specs.List.{slice_get}
 use Rattle.std.proofs.lemmas.List.{length-map}
 use Rattle.gr_logic.specs.Literals.{negation}
 use Rattle.gr_trail.specs.Trails.{Assigned}
-use Rattle.gr_prop.specs.Bases.{clauses_in, decisions}
+use Rattle.gr_prop.specs.Bases.{clauses_in, family, decisions, IsUnitClosure}
 use Rattle.gr_prop.specs.BaseChanges.{IsGrown}
+use Rattle.gr_prop.specs.Walking.{IsWalking}
 use Rattle.gr_prop.specs.Watching.{lits_at, AllFalse, IsReady, IsIndexed}
-use Rattle.gr_prop.proofs.Rounds.{lit-at, round-stops}
-use Rattle.gr_prop.proofs.Keeping.{grown-on, first-broken, decisions-grown}
-use Rattle.gr_prop.proofs.bases.Base.propagate.Goals.{In-Some, After-negate-gone, After-put, In-Some-2, After-loop-self}
+use Rattle.gr_prop.proofs.Rounds.{lit-at, round-begins, round-on, round-stops, ready-closed}
+use Rattle.gr_prop.proofs.Keeping.{grown-on, first-broken, none-first, decisions-grown}
+use Rattle.gr_prop.proofs.bases.Base.propagate.Goals.{In-Some, In_default, After-negate-gone, After-take-list, After-put, In-None, In-Some-2, After-loop-self}
+use Rattle.gr_prop.proofs.bases.Base.propagate.Goals as goal
 
 -- the first clause that was false when it came in is false
 pub broken : (c : In-Some) → IsSome (finite.get c.self.inside.arena.clauses c.in-Some.place.0)
@@ -18,6 +20,12 @@ pub broken : (c : In-Some) → IsSome (finite.get c.self.inside.arena.clauses c.
 broken c = c.self.invariant.ready.broken'.false' c.in-Some.place.0
     (first-broken c.self.inside.broken.items c.in-Some.place (sym (c.copied.ensures ∙ c.first.ensures.value ∙ ap
     (λ xs. slice_get xs 0) c.deref.ensures.value) ∙ c.in-Some.is))
+
+-- where no clause was false when it came in
+pub none-broken : (c : In_default) → c.self.inside.broken.items ≡ []
+none-broken c = none-first c.self.inside.broken.items
+    (sym (c.copied.ensures ∙ c.first.ensures.value ∙ ap (λ xs. slice_get xs 0) c.deref.ensures.value) ∙
+    c.in_default.is)
 
 -- the literal at the queue's head
 pub at-head : (c : After-negate-gone) → (x : Assigned)
@@ -33,6 +41,26 @@ at-head c =
 -- its negation is what became false
 pub gone-is : (c : After-negate-gone) → c.negate-gone.result ≡ negation (at-head c).0.lit
 gone-is c = c.negate-gone.ensures ∙ ap negation (sym (at-head c).1.1.0)
+
+-- and its variable is known
+pub gone-known : (c : After-negate-gone) → c.negate-gone.result.index < c.loop-self.self-inside.watches.vars
+gone-known c =
+    let s = c.loop-self.self-inside in
+    let x = at-head c in
+    let walk = round-begins s.arena.clauses s.trail s.watches _ _ s.head x.0 c.negate-gone.result
+    c.loop-self.invariant.ready x.1.1.1 x.1.0 (gone-is c) refl refl in
+    subst (λ n. c.negate-gone.result.index < n) (sym c.loop-self.invariant.ready.vars) walk.low
+
+-- the list that was taken out can be walked
+pub walks : (c : After-take-list) → IsWalking c.loop-self.self-inside.arena.clauses c.loop-self.self-inside.trail
+    c.take-list.new.self c.take-list.result.items c.negate-gone.result
+walks c =
+    let s = c.loop-self.self-inside in
+    let g = (goal.at.After-take-list c).After-negate-gone in
+    let x = at-head g in
+    round-begins s.arena.clauses s.trail s.watches c.take-list.new.self c.take-list.result.items s.head x.0
+    c.negate-gone.result c.loop-self.invariant.ready x.1.1.1 x.1.0 (gone-is g) c.take-list.ensures.rest
+    c.take-list.ensures.list
 
 -- the walked list is back
 pub stopped : (c : After-put) → IsReady c.walk-found.new.arena.clauses c.walk-found.new.trail c.put.new.self
@@ -66,6 +94,19 @@ pub decisions-still : (c : After-put) → decisions c.walk-found.new.trail.assig
     ≡ decisions c.args.self.now.trail.assigned
 decisions-still c = decisions-grown _ _ (grown-still c)
 
+-- where no clause is false, one literal more was propagated
+pub goes-on : (c : In-None) → IsReady c.walk-found.new.arena.clauses c.walk-found.new.trail c.put.new.self
+    (c.loop-self.self-inside.head + 1) []
+goes-on c =
+    let s = c.loop-self.self-inside in
+    let w = c.walk-found.ensures in
+    let g = (goal.at.In-None c).After-negate-gone in
+    let x = at-head g in
+    round-on s.arena.clauses c.walk-found.new.arena.clauses s.trail c.walk-found.new.trail s.watches
+    c.walk-found.new.watches c.put.new.self c.walk-found.new.list.items c.negate-gone.result s.head x.0
+    c.loop-self.invariant.ready x.1.1.1 x.1.0 (gone-is g) w.progress w.walking c.put.ensures
+    (rw c.in-None.is at c.in_ok-place.ensures.visited)
+
 -- the clause that the walk ended at is false
 pub found-there : (c : In-Some-2) → IsSome
     (finite.get c.walk-found.new.arena.clauses c.in-Some-2.place.0)
@@ -79,3 +120,10 @@ found-false c = rw c.in-Some-2.is at c.in_ok-place.ensures.falsified
 pub ended : (c : After-loop-self) → length c.loop-self.self-inside.trail.assigned ≤ c.loop-self.self-inside.head
 ended c = subst (λ n. n ≤ c.loop-self.self-inside.head) (ap length c.lits.ensures.lits
     ∙ length-map c.loop-self.self-inside.trail.assigned (λ x. x.lit)) c.loop-self-test.false
+
+-- so the trail is closed
+pub closes : (c : After-loop-self) → IsUnitClosure (family (clauses_in c.loop-self.self-inside.arena.clauses))
+    (decisions c.loop-self.self-inside.trail.assigned) c.loop-self.self-inside.trail.assigned
+closes c =
+    let s = c.loop-self.self-inside in
+    ready-closed s.arena.clauses s.trail s.watches s.head c.loop-self.invariant.ready (ended c)
