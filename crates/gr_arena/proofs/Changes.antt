@@ -10,7 +10,7 @@ use Rattle.std.specs.Cmp.{nat_cmp_total, unsigned_tied}
 use Rattle.std.specs.FinMap as map'
 use Rattle.std.specs.FinMap.{nat_cmp-IsAntisymmetric}
 use Rattle.gr_logic.specs.Literals.{Literal}
-use Rattle.gr_logic.specs.Words.{word_of, IsWithin}
+use Rattle.gr_logic.specs.Words.{word_of, IsNumbered}
 use Rattle.gr_logic.specs.declared.words.Word.{Word}
 use Rattle.gr_arena.specs.Arenas.{Stored, ArenaState, size}
 use Rattle.gr_arena.specs.Blocks.{Block, word, count_word, words_of, flat, Fits, AllFit, arena_in, Laid, bits_at}
@@ -218,7 +218,7 @@ module _ {ws : List Word} {h : ArenaState} {q : ℕ} (f : Found ws h q) where
   pub swap_fits : (i j : ℕ) → i < length lits → j < length lits → Fits (swapped i j)
   swap_fits i j lti ltj = (
     subst (λ n. n < 2_147_483_648) (sym (length-swap lits i j)) (fits f).0,
-    all_swap IsWithin lits i j lti ltj (fits f).1,
+    all_swap IsNumbered lits i j lti ltj (fits f).1,
   )
 
   pub swap_are : (i j : ℕ) → i < length lits → j < length lits → swap ws (q + 4 + i) (q + 4 + j)

@@ -9,7 +9,7 @@ use Rattle.std.specs.Cmp.{nat_cmp_total, unsigned_tied}
 use Rattle.std.specs.FinMap as map'
 use Rattle.gr_logic.specs.Literals.{Literal}
 use Rattle.gr_logic.specs.Codes.{literal_of-code_of}
-use Rattle.gr_logic.specs.Words.{literal_in, word_of, IsCode, IsWithin}
+use Rattle.gr_logic.specs.Words.{literal_in, word_of, IsCode, IsNumbered}
 use Rattle.gr_logic.specs.declared.words.Word.{Word}
 use Rattle.gr_arena.specs.Arenas.{Stored, ArenaState, size, no_clause}
 use Rattle.gr_arena.specs.Blocks.{Block, word, count_in, parse, count_word, words_of, flat, Fits, AllFit, table, arena_in, Laid, bits_at, body_at}
@@ -186,7 +186,7 @@ fit_within (x ∷ xs) b after fit = fit_within xs b after fit.1
 code_below : (l : Literal) → l.index < 1_000_000 → code_of l < 2_000_000
 code_below l h = grind (arith, h)
 
-codes_of : (ls : List Literal) → All IsWithin ls → All IsCode (map word_of ls)
+codes_of : (ls : List Literal) → All IsNumbered ls → All IsCode (map word_of ls)
 codes_of [] h k d lt = absurd (omega (arith, lt))
 codes_of (l ∷ ls) h zero d lt = code_below l (h 0 l (omega arith))
 codes_of (l ∷ ls) h (suc k) d lt = codes_of ls (λ j e lt'. h (suc j) e (omega (arith, lt'))) k d

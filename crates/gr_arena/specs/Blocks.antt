@@ -2,7 +2,7 @@
 use Rattle.std.specs.Prelude.{◌≡◌, ℕ, zero, suc, ◌+◌, ◌-◌, ◌*◌, ◌/◌, ◌%◌, ◌<◌, Bool, if◌then◌else◌, nat_lt, List, [], ◌∷◌, ◌++◌, length, map, take, drop, All, slice_index_or}
 use Rattle.std.specs.Ordering.{nat_cmp}
 use Rattle.std.specs.FinMap as map'
-use Rattle.gr_logic.specs.Words.{literal_in, word_of, IsWithin}
+use Rattle.gr_logic.specs.Words.{literal_in, word_of, IsNumbered}
 use Rattle.gr_logic.specs.declared.words.Word.{Word}
 use Rattle.gr_arena.specs.Arenas.{Stored, ArenaState, size}
 
@@ -61,7 +61,7 @@ blocks_in ws = parse (length ws) ws
 
 -- the block may be written: its literals are known, and can be counted with room for the mark
 abbrev pub Fits : Block → Type 0
-Fits b = (length b.stored.lits < 2_147_483_648) × All IsWithin b.stored.lits
+Fits b = (length b.stored.lits < 2_147_483_648) × All IsNumbered b.stored.lits
 
 -- each block may be written
 abbrev pub AllFit : List Block → Type 0

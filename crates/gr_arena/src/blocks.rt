@@ -1,7 +1,7 @@
 // Clauses as blocks of words.
 ghost use Rattle.std.specs.Prelude.{true, ◌≡◌, ◌≤◌, ◌<◌, ◌+◌, ◌/◌, ◌%◌, ◌++◌, length, OnOk, OnErr, map, All, slice_set, nat_lt};
 ghost use Rattle.std.specs.List.{swap};
-ghost use Rattle.gr_logic.specs.Words.{literal_in, IsCode, IsWithin};
+ghost use Rattle.gr_logic.specs.Words.{literal_in, IsCode, IsNumbered};
 ghost use Rattle.gr_arena.specs.Blocks.{Block, words_of, word, bits_at, body_at, count_in};
 
 use gr_logic::{Lit, OutOfMemory, Word, as_lits, as_words};
@@ -96,7 +96,7 @@ pub(crate) fn append(
     ensures ok { OnOk result (words.new.items
         ≡ words.old.items
         ++ words_of (record { live = true; stored = record { id = id; lbd = lbd; lits = lits.now } })) }
-    ensures within { OnOk result (All IsWithin lits.now) }
+    ensures within { OnOk result (All IsNumbered lits.now) }
     ensures err { OnErr result (words.new.items ≡ words.old.items) }
 {
     let tail = as_words(lits);

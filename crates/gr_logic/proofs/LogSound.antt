@@ -25,17 +25,21 @@ either-Meets a false x y c left right e = right e
 insert-MeetsLive : (a : List Bool) (live : Clauses) (id : ℕ) (c : List Literal)
     → MeetsLive a (map.get live) → Meets a c → MeetsLive a (map.get (map.insert live id c))
 insert-MeetsLive a live id c meets one q d e =
-    either-Meets a (eq_by_cmp nat_cmp q id) (Some c) (map.get live q) d (λ same. let s : c ≡ d = cc in subst (Meets a) s one) (meets q d) (sym (map.get-insert nat_cmp_total live id c q) ∙ e)
+    either-Meets a (eq_by_cmp nat_cmp q id) (Some c) (map.get live q) d
+    (λ same. let s : c ≡ d = cc in subst (Meets a) s one) (meets q d)
+    (sym (map.get-insert nat_cmp_total live id c q) ∙ e)
 
 remove-MeetsLive : (a : List Bool) (live : Clauses) (id : ℕ) → MeetsLive a (map.get live)
     → MeetsLive a (map.get (map.remove live id))
 remove-MeetsLive a live id meets q d e =
-    either-Meets a (eq_by_cmp nat_cmp q id) None (map.get live q) d (λ none. absurd (cc)) (meets q d) (sym (map.get-remove nat_cmp_total live id q) ∙ e)
+    either-Meets a (eq_by_cmp nat_cmp q id) None (map.get live q) d (λ none. absurd (cc)) (meets q d)
+    (sym (map.get-remove nat_cmp_total live id q) ∙ e)
 
 without-MeetsLive : (a : List Bool) (ids : List ℕ) (live : Clauses) → MeetsLive a (map.get live)
     → MeetsLive a (map.get (without live ids))
 without-MeetsLive a [] live meets = meets
-without-MeetsLive a (id ∷ ids) live meets = without-MeetsLive a ids (map.remove live id) (remove-MeetsLive a live id meets)
+without-MeetsLive a (id ∷ ids) live meets =
+    without-MeetsLive a ids (map.remove live id) (remove-MeetsLive a live id meets)
 
 empty-MeetsLive : (a : List Bool) → MeetsLive a (map.get (map.empty {R = nat_cmp}))
 empty-MeetsLive a q d e = absurd (let none = map.get-empty {X = List Literal} nat_cmp q in cc)
@@ -44,7 +48,8 @@ with_clauses-MeetsLive : (a : List Bool) (cs : List (List Literal)) (live : Clau
     → MeetsLive a (map.get live) → MeetsAll a cs → MeetsLive a (map.get (with_clauses live id cs))
 with_clauses-MeetsLive a [] live id meets all = meets
 with_clauses-MeetsLive a (c ∷ cs) live id meets all =
-    with_clauses-MeetsLive a cs (map.insert live id c) (id + 1) (insert-MeetsLive a live id c meets (All-head (Meets a) c cs all)) (All-tail (Meets a) c cs all)
+    with_clauses-MeetsLive a cs (map.insert live id c) (id + 1)
+    (insert-MeetsLive a live id c meets (All-head (Meets a) c cs all)) (All-tail (Meets a) c cs all)
 
 -- an addition with no cause passes the unit steps
 no-cause : (id : ℕ) (answer : Answer) → cause_of id answer ≡ None → answer ≡ Accepted
@@ -87,7 +92,9 @@ unrefuted a (x ∷ xs) n s meets e =
     elim (line_cause s x)
     as (λ o. line_cause s x ≡ o → first_cause n o (refusal_from (n + 1) (after_line s x) xs) ≡ None
     → (state_after (after_line s x) xs).refuted ≡ s.refuted) [
-      | None ↦ λ is e. let next = line-MeetsLive a s x is meets in unrefuted a xs (n + 1) (after_line s x) next.0 e ∙ next.1
+      | None ↦ λ is e.
+          let next = line-MeetsLive a s x is meets in
+          unrefuted a xs (n + 1) (after_line s x) next.0 e ∙ next.1
       | Some why ↦ λ _ e. absurd (cc)
     ] refl e
 
@@ -106,7 +113,8 @@ additions-met a (x ∷ xs) n s meets e =
     with-line : (x : Line) → line_cause s x ≡ None → All (Meets a) (clauses_added xs)
         → All (Meets a) (clauses_added (x ∷ xs))
     with-line (Add id c hints) is later =
-        All-cons (Meets a) c (clauses_added xs) (rup-sound (map.get s.live) c hints (addition-accepted s id c hints is) a meets) later
+        All-cons (Meets a) c (clauses_added xs)
+        (rup-sound (map.get s.live) c hints (addition-accepted s id c hints is) a meets) later
     with-line (Delete id ids) is later = later
 
 -- what meets the formula meets the clauses that are there at first

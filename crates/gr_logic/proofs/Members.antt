@@ -12,7 +12,9 @@ or-swap false b c = refl
 pub members-push_at : (q : Literal) (ls : List Literal) (l : Literal)
     → members (ls ++ l ∷ []) q ≡ (same_literal q l || members ls q)
 members-push_at q [] l = refl
-members-push_at q (x ∷ xs) l = ap (λ b. same_literal q x || b) (members-push_at q xs l) ∙ or-swap (same_literal q x) (same_literal q l) (members xs q)
+members-push_at q (x ∷ xs) l =
+    ap (λ b. same_literal q x || b) (members-push_at q xs l)
+    ∙ or-swap (same_literal q x) (same_literal q l) (members xs q)
 
 -- two sets with the same members are one
 pub members-push : (ls : List Literal) (l : Literal) → members (ls ++ l ∷ []) ≡ with_literal (members ls) l

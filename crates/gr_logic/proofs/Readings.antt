@@ -1,11 +1,12 @@
 -- how a clause reads, by its members alone
-use Rattle.std.proofs.Common.{◌≡◌, ℕ, Bool, true, false, not, ◌||◌, ◌&&◌, List, [], ◌∷◌, Option, Some, None, refl, sym, ap, ◌∙◌, subst, if◌then◌else◌}
+use Rattle.std.proofs.Common.{◌≡◌, ℕ, Bool, true, false, not, ◌||◌, ◌&&◌, List, [], ◌∷◌, Option, Some, None, refl, sym, ap, ◌∙◌, subst, if◌then◌else◌, All}
 use Rattle.std.specs.List.{list_all, filter}
 use Rattle.std.specs.Option.{option_map}
+use Rattle.std.proofs.lemmas.List.Elements.{All-head, All-tail}
 use Rattle.gr_logic.specs.Literals.{Literal, negation, same_literal}
 use Rattle.gr_logic.specs.Rup.{LiteralSet, Live, members, negated, with_literal, false_in, Reading, Falsified, Forces, Undecided, reading, reading_of_open, Answer, steps, after_hint, after_reading}
 use Rattle.gr_logic.specs.Closure.{family_of}
-use Rattle.gr_logic.specs.ClosureLaws.{UnitStepsReadSets}
+use Rattle.gr_logic.specs.ClosureLaws.{UnitStepsReadSets, UnitStepsReadHints}
 use Rattle.gr_logic.proofs.Sound.{same_literal-is}
 use Rattle.gr_logic.proofs.SameLiteral.{same_literal-itself, members-first, members-later, negated-is}
 
@@ -208,16 +209,24 @@ after_hint-set id set go stay (Some c) (Some d) same each =
     on (Forces l) = each (with_literal set l)
     on Undecided = refl
 
-steps-set : (one other : Live) → ((id : ℕ) → family_of one id ≡ family_of other id)
-    → (hints : List ℕ) (set : LiteralSet) → steps one set hints ≡ steps other set hints
-steps-set one other same [] set = refl
-steps-set one other same (id ∷ ids) set =
-    after_hint-set id set (λ next. steps one next ids) (λ next. steps other next ids) (one id) (other id) (same id)
-    (λ next. steps-set one other same ids next)
+-- two families have the same clause at the id
+abbrev Agree : Live → Live → ℕ → Type 0
+Agree one other id = family_of one id ≡ family_of other id
+
+pub steps-set : (one other : Live) (hints : List ℕ) → All (Agree one other) hints → (set : LiteralSet)
+    → steps one set hints ≡ steps other set hints
+steps-set one other [] same set = refl
+steps-set one other (id ∷ ids) same set =
+    after_hint-set id set (λ next. steps one next ids) (λ next. steps other next ids) (one id) (other id)
+    (All-head (Agree one other) id ids same)
+    (λ next. steps-set one other ids (All-tail (Agree one other) id ids same) next)
 
 pub negated-set : (c d : List Literal) → members c ≡ members d → negated c ≡ negated d
 negated-set c d same = λ i q. (negated-is c q ∙ ap (λ s. s (negation q)) same ∙ sym (negated-is d q)) i
 
+pub rup-hints : UnitStepsReadHints
+rup-hints one other c d is hints same =
+    steps-set one other hints same (negated c) ∙ ap (λ set. steps other set hints) (negated-set c d is)
+
 pub rup-sets : UnitStepsReadSets
-rup-sets one other same c d is hints =
-    steps-set one other same hints (negated c) ∙ ap (λ set. steps other set hints) (negated-set c d is)
+rup-sets one other same c d is hints = rup-hints one other c d is hints (λ i d within. same _)

@@ -64,8 +64,10 @@ open-true a set all [] e = e
 open-true a set all (l ∷ ls) e =
     elim (false_in set l)
     as (λ b. false_in set l ≡ b
-    → list_any (literal_true a) (if not b then l ∷ filter (λ x. not (false_in set x)) ls else filter (λ x. not (false_in set x)) ls) ≡ true) [
-      | true ↦ λ no. open-true a set all ls (one-true (literal_true a l) (list_any (literal_true a) ls) e (false_in-not a set all l no))
+    → list_any (literal_true a)
+    (if not b then l ∷ filter (λ x. not (false_in set x)) ls else filter (λ x. not (false_in set x)) ls) ≡ true) [
+      | true ↦ λ no. open-true a set all ls
+          (one-true (literal_true a l) (list_any (literal_true a) ls) e (false_in-not a set all l no))
       | false ↦ λ _.
           elim (literal_true a l)
           as (λ t. (t || list_any (literal_true a) ls) ≡ true
@@ -79,15 +81,19 @@ open-true a set all (l ∷ ls) e =
 forced-true : (a : List Bool) (l : Literal) (ls : List Literal)
     → list_all (same_literal l) ls ≡ true → list_any (literal_true a) (l ∷ ls) ≡ true
     → literal_true a l ≡ true
-forced-true a l [] all one = elim (literal_true a l) as (λ b. (b || false) ≡ true → b ≡ true) [ true ↦ λ _. refl | false ↦ λ e. e ] one
+forced-true a l [] all one =
+    elim (literal_true a l) as (λ b. (b || false) ≡ true → b ≡ true) [ true ↦ λ _. refl | false ↦ λ e. e ] one
 forced-true a l (x ∷ xs) all one =
     let both = both-true (same_literal l x) (list_all (same_literal l) xs) all in
     elim (literal_true a l) as (λ b. literal_true a l ≡ b → b ≡ true) [
       | true ↦ λ _. refl
       | false ↦ λ no.
           let x_no : literal_true a x ≡ false = ap (literal_true a) (sym (same_literal-is l x both.0)) ∙ no in
-          let rest : (literal_true a x || list_any (literal_true a) xs) ≡ true = one-true (literal_true a l) (list_any (literal_true a) (x ∷ xs)) one no in
-          sym no ∙ forced-true a l xs both.1 (rw no (one-true (literal_true a x) (list_any (literal_true a) xs) rest x_no))
+          let rest : (literal_true a x || list_any (literal_true a) xs) ≡ true =
+          one-true (literal_true a l) (list_any (literal_true a) (x ∷ xs)) one no in
+          sym no
+          ∙ forced-true a l xs both.1
+          (rw no (one-true (literal_true a x) (list_any (literal_true a) xs) rest x_no))
     ] refl
 
 -- a hint's clause is met, so the steps don't end there
@@ -110,7 +116,9 @@ steps-sound a live meets [] set all e = cc
 steps-sound a live meets (id ∷ ids) set all e =
     elim (live id) as (λ o. live id ≡ o → after_hint id set (λ next. steps live next ids) o ≡ Accepted → ⊥) [
       | None ↦ λ _ e. cc
-      | Some c ↦ λ is e. at_open a id set all (λ next. steps live next ids) (λ next ok e. steps-sound a live meets ids next ok e) (filter (λ l. not (false_in set l)) c) (open-true a set all c (meets id c is)) e
+      | Some c ↦ λ is e.
+          at_open a id set all (λ next. steps live next ids) (λ next ok e. steps-sound a live meets ids next ok e)
+          (filter (λ l. not (false_in set l)) c) (open-true a set all c (meets id c is)) e
     ] refl e
 
 -- where a clause isn't met, the negations of its literals are true
@@ -119,7 +127,9 @@ negated-true a [] unmet q e = absurd (cc)
 negated-true a (l ∷ ls) unmet q e =
     elim (same_literal q (negation l))
     as (λ b. same_literal q (negation l) ≡ b → (b || negated ls q) ≡ true → literal_true a q ≡ true) [
-      | true ↦ λ same _. ap (literal_true a) (same_literal-is q (negation l) same) ∙ literal_true-negation a l ∙ ap not (none-first (literal_true a l) _ unmet)
+      | true ↦ λ same _.
+          ap (literal_true a) (same_literal-is q (negation l) same) ∙ literal_true-negation a l
+          ∙ ap not (none-first (literal_true a l) _ unmet)
       | false ↦ λ _ rest. negated-true a ls (none-rest (literal_true a l) _ unmet) q rest
     ] refl e
   where

@@ -1,5 +1,5 @@
 -- the laws of unit closure, of greedy strengthening and of normal forms
-use Rattle.std.specs.Prelude.{◌≡◌, ℕ, List}
+use Rattle.std.specs.Prelude.{◌≡◌, ℕ, List, All}
 use Rattle.gr_logic.specs.Literals.{Literal}
 use Rattle.gr_logic.specs.Rup.{LiteralSet, Live, members, rup}
 use Rattle.gr_logic.specs.Closure.{ClauseFamily, family_of, IsWithin, IsPartOf, InClosure, DerivesConflict}
@@ -12,6 +12,13 @@ UnitStepsReadSets =
     (one other : Live) → ((id : ℕ) → family_of one id ≡ family_of other id)
     → (c d : List Literal) → members c ≡ members d
     → (hints : List ℕ) → rup one c hints ≡ rup other d hints
+
+-- and they read the clauses that the hints name alone
+abbrev pub UnitStepsReadHints : Type 0
+UnitStepsReadHints =
+    (one other : Live) (c d : List Literal) → members c ≡ members d
+    → (hints : List ℕ) → All (λ id. family_of one id ≡ family_of other id) hints
+    → rup one c hints ≡ rup other d hints
 
 -- more clauses and more given literals derive no less: so two families of the same clauses have the same closure
 abbrev pub ClosureGrows : Type 0

@@ -17,5 +17,5 @@ abbrev pub word_of : Literal → Word
 word_of l = record { bits = code_of l }
 
 -- the literal is one that the program knows: its variable is at most 1,000,000
-abbrev pub IsWithin : Literal → Type 0
-IsWithin l = l.index < 1_000_000
+abbrev pub IsNumbered : Literal → Type 0
+IsNumbered l = l.index < 1_000_000

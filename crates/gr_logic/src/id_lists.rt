@@ -29,6 +29,13 @@ impl Ids {
         }
     }
 
+    /// These ids, in order. Takes no memory.
+    pub fn from_vec(ids: Vec<u64>) -> Ids
+        ensures { result ≡ ids.items }
+    {
+        Ids { ids }
+    }
+
     /// The ids, in order.
     pub fn all(&self) -> &[u64]
         ensures { result.now ≡ self.now }

@@ -1,5 +1,5 @@
 // Laws of the definitions: each is the contract of a function that does nothing.
-ghost use Rattle.gr_logic.specs.ClosureLaws.{UnitStepsReadSets, ClosureGrows, GreedyIsUnique, GreedyIsWithin, NormalFormsAreNormal};
+ghost use Rattle.gr_logic.specs.ClosureLaws.{UnitStepsReadSets, UnitStepsReadHints, ClosureGrows, GreedyIsUnique, GreedyIsWithin, NormalFormsAreNormal};
 ghost use Rattle.gr_logic.specs.Laws.{UnitStepsAreSound, AdditionsAreImplied, AcceptedLogsRefute};
 
 /// What unit steps along hints accept is implied by the clauses that they read.
@@ -20,6 +20,11 @@ pub fn accepted_logs_refute()
 /// Unit steps read each clause as the set of its literals.
 pub fn unit_steps_read_sets()
     ensures { UnitStepsReadSets }
+{}
+
+/// Unit steps read the clauses that the hints name alone.
+pub fn unit_steps_read_hints()
+    ensures { UnitStepsReadHints }
 {}
 
 /// More clauses and more given literals derive no less.

@@ -56,6 +56,7 @@ fn keeps_what_is_pushed(rt: HostRuntime) -> Result<(), Fail> {
     ids.push(3)?;
     ids.push(1)?;
     assert_eq!(rt; ids.all(), [3, 1].as_slice());
+    assert_eq!(rt; Ids::from_vec(vec![in alloc; 3, 1]?).all(), ids.all());
     let mut same = clause(alloc, &[1, -2])?.copy()?;
     assert_eq!(rt; same.lits(), [lit(1)?, lit(-2)?].as_slice());
     same.clear();
@@ -121,14 +122,14 @@ fn makes_clauses_normal(rt: HostRuntime) -> Result<(), Fail> {
 }
 
 #[test]
-fn makes_long_clauses_normal(rt: HostRuntime) -> Result<(), Fail> {
+fn makes_a_clause_of_a_thousand_literals_normal(rt: HostRuntime) -> Result<(), Fail> {
     let alloc = rt.alloc();
     let mut numbers = Vec::new(alloc);
-    for n in 0..50u16 {
-        numbers.push(i32::from(n) - 60)?;
+    for n in 0..1000u16 {
+        numbers.push(i32::from(n) - 1010)?;
     }
     let firsts = numbers.as_slice().to_vec(alloc)?;
-    numbers.push(-60)?;
+    numbers.push(-1010)?;
     numbers.push(-11)?;
     assert_eq!(rt;
         normal_numbers(alloc, numbers.as_slice())?.as_slice(),

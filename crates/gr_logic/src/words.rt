@@ -1,6 +1,6 @@
 // Words that may be read as literals.
 ghost use Rattle.std.specs.Prelude.{◌≡◌, All, map};
-ghost use Rattle.gr_logic.specs.Words.{IsCode, IsWithin, literal_in, word_of};
+ghost use Rattle.gr_logic.specs.Words.{IsCode, IsNumbered, literal_in, word_of};
 
 use crate::literals::Lit;
 
@@ -22,7 +22,7 @@ pub fn as_lits(words: &[Word]) -> &[Lit]
 
 /// The literals as the words of their codes.
 pub fn as_words(lits: &[Lit]) -> &[Word]
-    ensures { (result.now ≡ map word_of lits.now) × All IsWithin lits.now }
+    ensures { (result.now ≡ map word_of lits.now) × All IsNumbered lits.now }
 {
     unsafe { std::slice::from_raw_parts(lits.as_ptr() as *const Word, lits.len()) }
 }
