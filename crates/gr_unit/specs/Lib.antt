@@ -1,3 +1,4 @@
 pub mod Forcing
 pub mod Closing
 pub mod Strengthening
+pub mod GreedyLaws

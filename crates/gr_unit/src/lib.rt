@@ -5,6 +5,7 @@
 mod closing;
 mod derivations;
 mod forcing;
+pub mod laws;
 mod strengthening;
 
 pub use closing::{bottom, closure};
