@@ -122,6 +122,7 @@ class Watch:
         self.pid, self.top = pid, top
         self.begun, self.works = time.monotonic(), {}
         self.own = self.counted = 0.0
+        self.before = None
 
     def look(self):
         """Looks once, and returns whether the gate still runs."""
@@ -129,6 +130,7 @@ class Watch:
         if self.pid not in found:
             return False
         self.own, self.counted = found[self.pid].own, found[self.pid].ended
+        self.before = self.counted if self.before is None else self.before
         children = collections.defaultdict(list)
         for pid, process in found.items():
             children[process.parent].append(pid)
@@ -172,10 +174,10 @@ class Watch:
             yield "|---|---|"
             yield from (f"| {name} | {seconds:,.0f} s |" for name, seconds in edits.most_common(dearest))
         yield ""
-        running = sum(work.seconds for work in self.works.values())
+        seen, counted = sum(work.seconds for work in self.works.values()), self.counted - (self.before or 0)
         yield (
-            f"The gate took {time.monotonic() - self.begun:,.0f} s; `rt ci` itself {self.own:,.0f} s of processor time. "
-            f"The system counts {self.counted:,.0f} s for its children, of which {running:,.0f} s were seen."
+            f"Watched for {time.monotonic() - self.begun:,.0f} s; `rt ci` itself took {self.own:,.0f} s of processor time. "
+            f"The system counts {counted:,.0f} s for its children that ended, and {seen:,.0f} s were seen."
         )
 
 
