@@ -176,8 +176,8 @@ class Watch:
         yield ""
         seen, counted = sum(work.seconds for work in self.works.values()), self.counted - (self.before or 0)
         yield (
-            f"Watched for {time.monotonic() - self.begun:,.0f} s; `rt ci` itself took {self.own:,.0f} s of processor time. "
-            f"The system counts {counted:,.0f} s for its children that ended, and {seen:,.0f} s were seen."
+            f"Watched for {time.monotonic() - self.begun:,.0f} s; `rt ci` itself took {self.own:,.0f} s of processor "
+            f"time. The system counts {counted:,.0f} s for its children that ended, and {seen:,.0f} s were seen."
         )
 
 
