@@ -1,13 +1,13 @@
-mod TrailSets
+pub mod TrailSets
 mod Kept
-mod Closed
-mod Stores
+pub mod Closed
+pub mod Stores
 mod Sound
 mod Counts
 mod WalkSteps
 mod Moves
 mod Rounds
-mod Facts
+pub mod Facts
 mod Endings
 mod Stepping
 mod Keeping
@@ -25,3 +25,9 @@ mod Mapped
 mod MovedClauses
 mod Compacted
 mod MovedLists
+pub mod Founded
+pub mod Lookups
+pub mod Models
+pub mod Learned
+pub mod MovedIds
+pub mod Short

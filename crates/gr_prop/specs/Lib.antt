@@ -7,3 +7,5 @@ pub mod Visits
 pub mod Walking
 pub mod Additions
 pub mod Compactions
+pub mod Learnt
+pub mod Laws

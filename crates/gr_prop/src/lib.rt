@@ -5,6 +5,7 @@ mod additions;
 mod bases;
 mod compacting;
 mod id_maps;
+pub mod laws;
 mod visits;
 mod walks;
 

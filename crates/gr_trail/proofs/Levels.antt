@@ -6,7 +6,7 @@ use Rattle.gr_logic.specs.Literals.{var_of}
 use Rattle.gr_logic.specs.declared.places.Place.{Place}
 use Rattle.gr_trail.specs.Trails.{Assigned, Climbs, level_after, up_to, reason_at, with_reason}
 
-after-le : (level : ℕ) (reason : Option Place) → (level ≤ level_after level reason)
+pub after-le : (level : ℕ) (reason : Option Place) → (level ≤ level_after level reason)
     × (level_after level reason ≤ level + 1)
 after-le level None = (omega arith, omega arith)
 after-le level (Some p) = (omega arith, omega arith)

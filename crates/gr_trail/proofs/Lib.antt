@@ -4,3 +4,6 @@ pub mod Pushes
 pub mod Backs
 pub mod Finds
 pub mod Reasons
+pub mod Climbing
+pub mod Standing
+pub mod GoingBack

@@ -26,14 +26,14 @@ pub struct Watches {
 }
 
 impl Model for Watches {
-    ghost use Rattle.std.specs.Prelude.{◌≡◌, ◌*◌, map, length};
+    ghost use Rattle.std.specs.Prelude.{◌≡◌, ◌≤◌, ◌*◌, map, length};
     ghost use Rattle.gr_watch.specs.WatchLists.{WatchLists};
 
     ghost Value = { WatchLists };
 
     ghost view = { λ watches. record { vars = watches.vars; lists = map (λ list. list.items) watches.lists.items } };
 
-    ghost invariant = { λ watches. length watches.lists.items ≡ 2 * watches.vars };
+    ghost invariant = { λ watches. (length watches.lists.items ≡ 2 * watches.vars) × (watches.vars ≤ 1_000_000) };
 }
 
 impl Watches {
@@ -52,7 +52,8 @@ impl Watches {
 
     /// The number of variables.
     pub fn vars(&self) -> u32
-        ensures { result ≡ self.now.vars }
+        ensures is { result ≡ self.now.vars }
+        ensures small { result ≤ 1_000_000 }
     {
         self.vars
     }

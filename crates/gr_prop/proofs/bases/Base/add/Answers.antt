@@ -1,4 +1,4 @@
-use Rattle.std.proofs.Common.{◌≡◌, ◌<◌, ◌++◌, ◌∷◌, [], IsSome, None, All, false, true, is_ok, if◌then◌else◌, ap, sym, ◌∙◌, subst, refl, arith}
+use Rattle.std.proofs.Common.{length, ◌≡◌, ◌<◌, ◌++◌, ◌∷◌, [], IsSome, None, All, false, true, is_ok, if◌then◌else◌, ap, sym, ◌∙◌, subst, refl, arith}
 use Rattle.std.specs.FinMap as finite
 use Rattle.gr_logic.specs.Literals.{Literal}
 use Rattle.gr_prop.specs.Bases.{BaseState, clauses_in}
@@ -9,10 +9,14 @@ use Rattle.gr_prop.proofs.Stores.{get-insert-same, lits-insert, remove-insert}
 use Rattle.gr_prop.proofs.Finding.{unused-none}
 use Rattle.gr_prop.proofs.Forcing.{forced-known}
 use Rattle.gr_prop.proofs.Arrivals.{kept-same, kept-rests, kept-broken, kept-forced, added-rests, added-broken, added-forced}
-use Rattle.gr_prop.proofs.bases.Base.add.Answers.Incoming.{taken, come, known, lacks, coming, stands, as-added}
-use Rattle.gr_prop.proofs.bases.Base.add.Goals.{After-arrange, After-assess}
+use Rattle.gr_prop.proofs.bases.Base.add.Answers.Incoming.{few, taken, come, known, lacks, now, stands, as-added}
+use Rattle.gr_prop.proofs.bases.Base.add.Goals.{After-vars-longest, After-arrange, After-assess}
 use Rattle.gr_prop.proofs.bases.Base.add.Goals as goal
 mod Incoming
+
+pub add-requires : goal.add-requires
+add-requires c =
+    let short = few (goal.at.add-requires c).After-vars-longest in omega (arith, short, ap length c.lits.ensures)
 
 pub arrange-requires-clause-there : goal.arrange-requires-clause-there
 arrange-requires-clause-there c =
@@ -23,7 +27,7 @@ pub arrange-requires-clause-known : goal.arrange-requires-clause-known
 arrange-requires-clause-known c =
     subst (All (λ (l : Literal). l.index < c.self.inside.trail.vars))
     (sym (ap (λ k. lits_at k c.in_ok-place.place.0) c.in_ok-place.ensures.clauses ∙ lits-insert
-    c.self.inside.arena.clauses c.in_ok-place.place.0 _ ∙ c.lits-2.ensures))
+    c.self.inside.arena.clauses c.in_ok-place.place.0 _ ∙ c.lits.ensures))
     (subst (λ (b : BaseState). All (λ (l : Literal). l.index < b.trail.vars) c.args.clause.now) (sym c.self.view_is)
     c.requires.known)
 
@@ -38,8 +42,8 @@ invariant_of-self-in-Err c =
 
 pub watch-requires : goal.watch-requires
 watch-requires c = record {
-  known = subst (λ n. All (λ (l : Literal). l.index < n) c.lits-3.result.now) (sym c.self.invariant.ready.vars)
-      (subst (All (λ (l : Literal). l.index < c.self.inside.trail.vars)) (sym c.lits-3.ensures)
+  known = subst (λ n. All (λ (l : Literal). l.index < n) c.lits-2.result.now) (sym c.self.invariant.ready.vars)
+      (subst (All (λ (l : Literal). l.index < c.self.inside.trail.vars)) (sym c.lits-2.ensures)
       (known (goal.at.watch-requires c).After-arrange));
 }
 
@@ -56,19 +60,18 @@ invariant_of-self-in-Err-watch c =
     c.reserve.ensures.items c.self.invariant
 
 pub assess-requires-clause-arranged : goal.assess-requires-clause-arranged
-assess-requires-clause-arranged c = subst (IsArranged c.self.inside.trail.assigned) (sym c.lits-4.ensures)
+assess-requires-clause-arranged c = subst (IsArranged c.self.inside.trail.assigned) (sym c.lits-3.ensures)
     (come (goal.at.assess-requires-clause-arranged c).After-arrange).arranged
 
 pub assess-requires-clause-known : goal.assess-requires-clause-known
 assess-requires-clause-known c = subst (All (λ (l : Literal). l.index < c.self.inside.trail.vars))
-    (sym c.lits-4.ensures) (known (goal.at.assess-requires-clause-known c).After-arrange)
+    (sym c.lits-3.ensures) (known (goal.at.assess-requires-clause-known c).After-arrange)
 
 pub invariant_of-self-in-Broken : goal.invariant_of-self-in-Broken
 invariant_of-self-in-Broken c =
     let g = (goal.at.invariant_of-self-in-Broken c).After-assess in
-    let a = (goal.at.invariant_of-self-in-Broken c).After-arrange in
     let ok : is_ok c.push.result ≡ true = c.push.ensures.succeeds (omega (arith, c.in_ok-reserve.ensures.ok)) in
-    kept-broken (coming g (come a) (lacks a)) c.push.new.self.items
+    kept-broken (now g) c.push.new.self.items
     (c.push.ensures.items ∙ ap (λ b. if b then c.reserve.new.self.items ++ c.in_ok-place.place ∷ [] else
     c.reserve.new.self.items) ok ∙ ap (λ xs. xs ++ c.in_ok-place.place ∷ []) c.reserve.ensures.items)
     (stands g Broken c.in-Broken.is)
@@ -84,36 +87,30 @@ assign-requires-clause-within c =
 pub invariant_of-self-in-Forced : goal.invariant_of-self-in-Forced
 invariant_of-self-in-Forced c =
     let g = (goal.at.invariant_of-self-in-Forced c).After-assess in
-    let a = (goal.at.invariant_of-self-in-Forced c).After-arrange in
     subst (λ xs. IsKeptBase c.arrange.new.arena.clauses c.assign.new.self c.watch.new.watches c.insert.new.self
     c.self.inside.head xs false None) (sym c.reserve.ensures.items)
-    (kept-forced (coming g (come a) (lacks a)) c.assign.new.self c.in-Forced.lit c.assign.ensures
+    (kept-forced (now g) c.assign.new.self c.in-Forced.lit c.assign.ensures
     (stands g (Forced c.in-Forced.lit) c.in-Forced.is))
 
 pub invariant_of-self-in-Rests : goal.invariant_of-self-in-Rests
 invariant_of-self-in-Rests c =
     let g = (goal.at.invariant_of-self-in-Rests c).After-assess in
-    let a = (goal.at.invariant_of-self-in-Rests c).After-arrange in
     subst (λ xs. IsKeptBase c.arrange.new.arena.clauses c.self.inside.trail c.watch.new.watches c.insert.new.self
     c.self.inside.head xs false None) (sym c.reserve.ensures.items)
-    (kept-rests (coming g (come a) (lacks a)) (stands g Rests c.in-Rests.is))
+    (kept-rests (now g) (stands g Rests c.in-Rests.is))
 
 pub returns-in-Broken : goal.returns-in-Broken
 returns-in-Broken c =
     let g = (goal.at.returns-in-Broken c).After-assess in
-    let a = (goal.at.returns-in-Broken c).After-arrange in
-    as-added g c.self.inside.trail (added-broken (coming g (come a) (lacks a)) (stands g Broken c.in-Broken.is))
+    as-added g c.self.inside.trail (added-broken (now g) (stands g Broken c.in-Broken.is))
 
 pub returns-in-Forced : goal.returns-in-Forced
 returns-in-Forced c =
     let g = (goal.at.returns-in-Forced c).After-assess in
-    let a = (goal.at.returns-in-Forced c).After-arrange in
-    as-added g c.assign.new.self (added-forced (coming g (come a) (lacks a)) c.assign.new.self c.in-Forced.lit
-    c.assign.ensures
+    as-added g c.assign.new.self (added-forced (now g) c.assign.new.self c.in-Forced.lit c.assign.ensures
     (stands g (Forced c.in-Forced.lit) c.in-Forced.is))
 
 pub returns-in-Rests : goal.returns-in-Rests
 returns-in-Rests c =
     let g = (goal.at.returns-in-Rests c).After-assess in
-    let a = (goal.at.returns-in-Rests c).After-arrange in
-    as-added g c.self.inside.trail (added-rests (coming g (come a) (lacks a)) (stands g Rests c.in-Rests.is))
+    as-added g c.self.inside.trail (added-rests (now g) (stands g Rests c.in-Rests.is))

@@ -7,17 +7,17 @@ use Rattle.gr_watch.proofs.lists.Watches.attach.Goals as goal
 pub returns-in_err-push-clause-err : goal.returns-in_err-push-clause-err
 returns-in_err-push-clause-err c =
     on_err c.from_residual.result _
-    (written _ _ _ c.args.self.now c.self.view_is c.self.invariant c.args.lit c.requires
+    (written _ _ _ c.args.self.now c.self.view_is c.self.invariant.0 c.args.lit c.requires
     c.code.result c.code.ensures.code _ (list_of c.args.self.now c.args.lit)
-    (c.in_err-push.ensures.items ∙ read _ _ _ c.args.self.now c.self.view_is c.self.invariant
+    (c.in_err-push.ensures.items ∙ read _ _ _ c.args.self.now c.self.view_is c.self.invariant.0
     c.args.lit c.requires c.code.result c.code.ensures.code c.index_mut.result.now
     c.index_mut.ensures.value)
     ∙ with_own c.args.self.now c.args.lit)
 
 pub returns-clause-ok : goal.returns-clause-ok
 returns-clause-ok c =
-    written _ _ _ c.args.self.now c.self.view_is c.self.invariant c.args.lit c.requires
+    written _ _ _ c.args.self.now c.self.view_is c.self.invariant.0 c.args.lit c.requires
     c.code.result c.code.ensures.code _ _
     (c.in_ok-push.ensures.items ∙ ap (λ list. list ++ c.args.watch ∷ [])
-    (read _ _ _ c.args.self.now c.self.view_is c.self.invariant c.args.lit c.requires
+    (read _ _ _ c.args.self.now c.self.view_is c.self.invariant.0 c.args.lit c.requires
     c.code.result c.code.ensures.code c.index_mut.result.now c.index_mut.ensures.value))

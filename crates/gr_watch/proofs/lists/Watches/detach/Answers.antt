@@ -6,8 +6,8 @@ use Rattle.gr_watch.proofs.lists.Watches.detach.Goals as goal
 
 pub returns : goal.returns
 returns c =
-    written _ _ _ c.args.self.now c.self.view_is c.self.invariant c.args.lit c.requires.known
+    written _ _ _ c.args.self.now c.self.view_is c.self.invariant.0 c.args.lit c.requires.known
     c.code.result c.code.ensures.code _ _
     (c.take_first.ensures ∙ ap (λ list. taken_out list (first_at c.args.place list))
-    (read _ _ _ c.args.self.now c.self.view_is c.self.invariant c.args.lit c.requires.known
+    (read _ _ _ c.args.self.now c.self.view_is c.self.invariant.0 c.args.lit c.requires.known
     c.code.result c.code.ensures.code c.index_mut.result.now c.index_mut.ensures.value))

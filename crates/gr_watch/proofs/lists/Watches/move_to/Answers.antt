@@ -24,10 +24,10 @@ returns-clause-ok c =
     let old : WatchLists = c.args.self.now in
     let lost : List Watch = taken_out (list_of old c.args.from) c.args.index in
     let gained : List Watch = list_of old c.args.to ++ c.index-list-index.result ∷ [] in
-    written _ _ _ c.attach.new.self c.self.view_is c.self.invariant c.args.from (known c)
+    written _ _ _ c.attach.new.self c.self.view_is c.self.invariant.0 c.args.from (known c)
     c.code.result c.code.ensures.code _ _
     (c.take_out.ensures ∙ ap (λ list. taken_out list c.args.index)
-    (read _ _ _ c.attach.new.self c.self.view_is c.self.invariant c.args.from (known c)
+    (read _ _ _ c.attach.new.self c.self.view_is c.self.invariant.0 c.args.from (known c)
     c.code.result c.code.ensures.code c.index_mut.result.now c.index_mut.ensures.value))
     ∙ ap (λ (w : WatchLists). with_list w c.args.from (taken_out (list_of w c.args.from)
     c.args.index)) c.in_ok-attach.ensures.ok

@@ -1,5 +1,5 @@
 -- what is known of a clause while it is added
-use Rattle.std.proofs.Common.{◌≡◌, ◌<◌, None, All, false, ap, sym, ◌∙◌, subst}
+use Rattle.std.proofs.Common.{length, ◌≤◌, arith, ◌≡◌, ◌<◌, None, All, false, ap, sym, ◌∙◌, subst}
 use Rattle.std.specs.FinMap as finite
 use Rattle.gr_logic.specs.Literals.{Literal}
 use Rattle.gr_logic.specs.NormalForms.{IsNormal}
@@ -9,23 +9,34 @@ use Rattle.gr_trail.specs.Trails.{TrailState}
 use Rattle.gr_prop.specs.Watching.{lits_at}
 use Rattle.gr_prop.specs.Additions.{StandsAs, watching_too}
 use Rattle.gr_prop.specs.declared.additions.Standing.{Standing}
+use Rattle.gr_prop.proofs.Facts.{normal-distinct}
+use Rattle.gr_prop.proofs.Short.{short}
 use Rattle.gr_prop.proofs.Adding.{clause-known}
 use Rattle.gr_prop.proofs.Arrivals.{IsArrived, IsComing, arrived, taken-back, stands-at}
-use Rattle.gr_prop.proofs.bases.Base.add.Goals.{After-arrange, After-assess}
+use Rattle.gr_prop.proofs.bases.Base.add.Goals.{After-vars-longest, After-arrange, After-assess}
+use Rattle.gr_prop.proofs.bases.Base.add.Goals as goal
+
+-- no clause has more literals than there may be variables
+pub few : (c : After-vars-longest) → length c.args.clause.now ≤ 1_000_000
+few c =
+    let most = short c.args.clause.now c.self.inside.trail.vars (normal-distinct c.args.clause.now c.requires.normal)
+    (subst (λ (b : BaseState). All (λ (l : Literal). l.index < b.trail.vars) c.args.clause.now) (sym c.self.view_is)
+    c.requires.known) in
+    omega (arith, most, c.self.invariant.ready.vars, c.vars-longest.ensures.is, c.vars-longest.ensures.small)
 
 -- what is known of the clause once its literals are arranged
 pub come : (c : After-arrange) → IsArrived c.self.inside.arena.clauses c.arrange.new.arena.clauses c.self.inside.trail
-    c.in_ok-place.place (record { id = c.args.id; lbd = c.args.lbd; lits = c.lits-2.result.now })
+    c.in_ok-place.place (record { id = c.args.id; lbd = c.args.lbd; lits = c.lits.result.now })
 come c =
     let s = c.self.inside in
     arrived s.arena.clauses c.add.new.self.clauses c.arrange.new.arena.clauses s.trail c.in_ok-place.place _
     c.in_ok-place.ensures.fresh c.in_ok-place.ensures.clauses
     c.arrange.ensures.reordered c.arrange.ensures.arranged c.arrange.ensures.still
-    (subst IsNormal (sym c.lits-2.ensures) c.requires.normal)
-    (subst (All (λ (l : Literal). l.index < s.trail.vars)) (sym c.lits-2.ensures)
+    (subst IsNormal (sym c.lits.ensures) c.requires.normal)
+    (subst (All (λ (l : Literal). l.index < s.trail.vars)) (sym c.lits.ensures)
     (subst (λ (b : BaseState). All (λ (l : Literal). l.index < b.trail.vars) c.args.clause.now) (sym c.self.view_is)
     c.requires.known))
-    (subst (IsAddable s.trail) (sym c.lits-2.ensures)
+    (subst (IsAddable s.trail) (sym c.lits.ensures)
     (subst (λ (b : BaseState). IsAddable b.trail c.args.clause.now) (sym c.self.view_is) c.requires.addable))
 
 -- its literals are known
@@ -49,25 +60,31 @@ taken c = taken-back c.self.inside.arena.clauses c.add.new.self.clauses c.arrang
 
 -- it has its watches and its id
 pub coming : (c : After-assess) → IsArrived c.self.inside.arena.clauses c.arrange.new.arena.clauses c.self.inside.trail
-    c.in_ok-place.place (record { id = c.args.id; lbd = c.args.lbd; lits = c.lits-2.result.now })
+    c.in_ok-place.place (record { id = c.args.id; lbd = c.args.lbd; lits = c.lits.result.now })
     → LacksId (clauses_in c.self.inside.arena.clauses) c.args.id
     → IsComing c.self.inside.arena.clauses c.arrange.new.arena.clauses c.self.inside.trail c.self.inside.watches
     c.watch.new.watches c.self.inside.places c.insert.new.self c.self.inside.head c.self.inside.broken.items
     c.self.inside.quiet c.self.inside.conflict c.in_ok-place.place
-    (record { id = c.args.id; lbd = c.args.lbd; lits = c.lits-2.result.now })
+    (record { id = c.args.id; lbd = c.args.lbd; lits = c.lits.result.now })
 coming c come unused = record {
   kept = c.self.invariant;
   come = come;
   unused = unused;
-  lists = c.in_default-watch.ensures.ok ∙ ap (watching_too c.self.inside.watches c.in_ok-place.place) c.lits-3.ensures;
+  lists = c.in_default-watch.ensures.ok ∙ ap (watching_too c.self.inside.watches c.in_ok-place.place) c.lits-2.ensures;
   index = c.in_default.ensures.ok;
 }
+
+pub now : (c : After-assess) → IsComing c.self.inside.arena.clauses c.arrange.new.arena.clauses c.self.inside.trail
+    c.self.inside.watches c.watch.new.watches c.self.inside.places c.insert.new.self c.self.inside.head
+    c.self.inside.broken.items c.self.inside.quiet c.self.inside.conflict c.in_ok-place.place
+    (record { id = c.args.id; lbd = c.args.lbd; lits = c.lits.result.now })
+now c = let a = (goal.at.After-assess c).After-arrange in coming c (come a) (lacks a)
 
 -- how it stands
 pub stands : (c : After-assess) (x : Standing) → c.assess.result ≡ x → StandsAs c.self.inside.trail.assigned
     (lits_at c.arrange.new.arena.clauses c.in_ok-place.place.0) x
 stands c x is = stands-at c.self.inside.trail.assigned (lits_at c.arrange.new.arena.clauses c.in_ok-place.place.0)
-    c.lits-4.result.now c.assess.result x c.lits-4.ensures is c.assess.ensures
+    c.lits-3.result.now c.assess.result x c.lits-3.ensures is c.assess.ensures
 
 -- the base before and afterwards, as its view tells them
 abbrev pub was : After-assess → BaseState
@@ -82,9 +99,9 @@ abbrev pub becomes : After-assess → TrailState → BaseState
 becomes c t = record { clauses = clauses_in c.arrange.new.arena.clauses; trail = t; quiet = false; conflict = None }
 
 pub as-added : (c : After-assess) (t : TrailState) → IsAdded (was c) (becomes c t) c.args.id c.args.lbd
-    c.lits-2.result.now c.in_ok-place.place
+    c.lits.result.now c.in_ok-place.place
     → IsAdded c.args.self.now (becomes c t) c.args.id c.args.lbd c.args.clause.now c.in_ok-place.place
 as-added c t added =
     subst (λ (b : BaseState). IsAdded b (becomes c t) c.args.id c.args.lbd c.args.clause.now c.in_ok-place.place)
     c.self.view_is
-    (subst (λ ls. IsAdded (was c) (becomes c t) c.args.id c.args.lbd ls c.in_ok-place.place) c.lits-2.ensures added)
+    (subst (λ ls. IsAdded (was c) (becomes c t) c.args.id c.args.lbd ls c.in_ok-place.place) c.lits.ensures added)
