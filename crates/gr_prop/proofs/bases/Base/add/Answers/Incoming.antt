@@ -6,13 +6,13 @@ use Rattle.gr_logic.specs.NormalForms.{IsNormal}
 use Rattle.gr_prop.specs.Bases.{BaseState, clauses_in, LacksId}
 use Rattle.gr_prop.specs.BaseChanges.{IsAddable, IsAdded}
 use Rattle.gr_trail.specs.Trails.{TrailState}
-use Rattle.gr_prop.specs.Watching.{lits_at}
+use Rattle.gr_prop.specs.Watching.{lits_at, longer, paired, ArePaired}
 use Rattle.gr_prop.specs.Additions.{StandsAs, watching_too}
 use Rattle.gr_prop.specs.declared.additions.Standing.{Standing}
 use Rattle.gr_prop.proofs.Facts.{normal-distinct}
 use Rattle.gr_prop.proofs.Short.{short}
 use Rattle.gr_prop.proofs.Adding.{clause-known}
-use Rattle.gr_prop.proofs.Arrivals.{IsArrived, IsComing, arrived, taken-back, stands-at}
+use Rattle.gr_prop.proofs.Arrivals.{pairs-come, IsArrived, IsComing, arrived, taken-back, stands-at}
 use Rattle.gr_prop.proofs.bases.Base.add.Goals.{After-vars-longest, After-arrange, After-assess}
 use Rattle.gr_prop.proofs.bases.Base.add.Goals as goal
 
@@ -22,7 +22,7 @@ few c =
     let most = short c.args.clause.now c.self.inside.trail.vars (normal-distinct c.args.clause.now c.requires.normal)
     (subst (λ (b : BaseState). All (λ (l : Literal). l.index < b.trail.vars) c.args.clause.now) (sym c.self.view_is)
     c.requires.known) in
-    omega (arith, most, c.self.invariant.ready.vars, c.vars-longest.ensures.is, c.vars-longest.ensures.small)
+    omega (arith, most, c.self.invariant.0.ready.vars, c.vars-longest.ensures.is, c.vars-longest.ensures.small)
 
 -- what is known of the clause once its literals are arranged
 pub come : (c : After-arrange) → IsArrived c.self.inside.arena.clauses c.arrange.new.arena.clauses c.self.inside.trail
@@ -46,7 +46,7 @@ known c =
     let s = c.self.inside in
     let a = come c in
     clause-known s.arena.clauses c.arrange.new.arena.clauses s.trail s.watches s.head s.broken.items
-    c.in_ok-place.place _ c.self.invariant.ready a.fresh a.reordered a.distinct a.known
+    c.in_ok-place.place _ c.self.invariant.0.ready a.fresh a.reordered a.distinct a.known
 
 -- no clause of the base has its id
 pub lacks : (c : After-arrange) → LacksId (clauses_in c.self.inside.arena.clauses) c.args.id
@@ -67,10 +67,11 @@ pub coming : (c : After-assess) → IsArrived c.self.inside.arena.clauses c.arra
     c.self.inside.quiet c.self.inside.conflict c.in_ok-place.place
     (record { id = c.args.id; lbd = c.args.lbd; lits = c.lits.result.now })
 coming c come unused = record {
-  kept = c.self.invariant;
+  kept = c.self.invariant.0;
   come = come;
   unused = unused;
-  lists = c.in_default-watch.ensures.ok ∙ ap (watching_too c.self.inside.watches c.in_ok-place.place) c.lits-2.ensures;
+  lists = c.in_default-watch.ensures.ok
+      ∙ ap (λ ls. watching_too c.self.inside.watches c.in_ok-place.place (longer ls)) c.lits-lits.ensures;
   index = c.in_default.ensures.ok;
 }
 
@@ -80,11 +81,17 @@ pub now : (c : After-assess) → IsComing c.self.inside.arena.clauses c.arrange.
     (record { id = c.args.id; lbd = c.args.lbd; lits = c.lits.result.now })
 now c = let a = (goal.at.After-assess c).After-arrange in coming c (come a) (lacks a)
 
+-- so have the lists of the clauses of two literals
+pub pairs-now : (c : After-assess) → ArePaired c.arrange.new.arena.clauses c.self.inside.trail.vars c.watch.new.pairs
+pairs-now c = pairs-come (now c) c.self.inside.pairs c.watch.new.pairs c.self.invariant.1
+    (c.in_default-watch.ensures.pairs
+    ∙ ap (λ ls. watching_too c.self.inside.pairs c.in_ok-place.place (paired ls)) c.lits-lits.ensures)
+
 -- how it stands
 pub stands : (c : After-assess) (x : Standing) → c.assess.result ≡ x → StandsAs c.self.inside.trail.assigned
     (lits_at c.arrange.new.arena.clauses c.in_ok-place.place.0) x
 stands c x is = stands-at c.self.inside.trail.assigned (lits_at c.arrange.new.arena.clauses c.in_ok-place.place.0)
-    c.lits-3.result.now c.assess.result x c.lits-3.ensures is c.assess.ensures
+    c.lits-2.result.now c.assess.result x c.lits-2.ensures is c.assess.ensures
 
 -- the base before and afterwards, as its view tells them
 abbrev pub was : After-assess → BaseState
