@@ -109,7 +109,8 @@ met-any k xs gone (w ∷ ws) place others met h =
     sum_by-cons (λ (x : Watch). bit (nat_eq x.place.0 place)) w ws in
     let one = All-head (IsOther k gone) w ws others in
     let now : true_in xs w.blocker ≡ true = All-head (λ (x : Watch). true_in xs x.blocker ≡ true) w ws met in
-    elim (nat_eq w.place.0 place) as (λ b. nat_eq w.place.0 place ≡ b → list_any (true_in xs) (lits_at k place) ≡ true) [
+    elim (nat_eq w.place.0 place) as (λ b. nat_eq w.place.0 place ≡ b → list_any (true_in xs)
+    (lits_at k place) ≡ true) [
       | true ↦ λ same.
           let is : w.place.0 ≡ place = grind (arith, nat_tests, same) in
           subst (λ q. list_any (true_in xs) (lits_at k q) ≡ true) is

@@ -85,7 +85,8 @@ module _ (k : Store) (t : TrailState) (ws : WatchLists) (places : finite.FinMap 
         (kept.ready.distinct place.0 o.index)
 
     pub paired-by-two : IsWatchedByTwo ps place (paired c)
-    paired-by-two = watched-twice paired k ps t.vars place p.watching p.even paired-known paired-distinct (paired c) refl
+    paired-by-two = watched-twice paired k ps t.vars place p.watching p.even paired-known paired-distinct
+        (paired c) refl
 
     pub paired-removed : (qs : WatchLists) → qs ≡ unwatching ps place (paired c) → ArePaired n t.vars qs
     paired-removed qs is =

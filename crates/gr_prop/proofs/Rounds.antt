@@ -106,7 +106,8 @@ round-ready k n t u ws vs list gone head ready progress walk =
     }
 
 -- a clause that has a true literal where it is watched is guarded one literal on
-pub guarded-next : (xs done : List Assigned) (x : Assigned) (depth : ℕ) (gone : Literal) (c : List Literal) → Climbs 0 xs
+pub guarded-next : (xs done : List Assigned) (x : Assigned) (depth : ℕ) (gone : Literal) (c : List Literal)
+    → Climbs 0 xs
     depth → x.level ≡ depth
     → gone ≡ negation x.lit → IsGuarded xs done c → (1 ≤ watched c gone → list_any (true_in xs) c ≡ true) → IsGuarded
     xs (done ++ x ∷ []) c

@@ -6,12 +6,11 @@ use Rattle.gr_prop.specs.Watching.{lits_at, IsKeptBase, ArePaired}
 use Rattle.gr_trail.specs.Trails.{TrailState}
 use Rattle.gr_prop.specs.Additions.{IsArranged}
 use Rattle.gr_prop.specs.declared.additions.Standing.TheVariants.{Broken, Forced, Rests}
-use Rattle.gr_prop.proofs.Stores.{get-insert-same, lits-insert, remove-insert}
-use Rattle.gr_prop.proofs.Finding.{unused-none}
+use Rattle.gr_prop.proofs.Stores.{get-insert-same, lits-insert}
 use Rattle.gr_prop.proofs.Forcing.{forced-known}
-use Rattle.gr_prop.proofs.Arrivals.{pairs-back, kept-same, kept-rests, kept-broken, kept-forced, added-rests, added-broken, added-forced}
-use Rattle.gr_prop.proofs.bases.Base.add.Answers.Incoming.{few, taken, come, known, lacks, now, pairs-now, stands, as-added}
-use Rattle.gr_prop.proofs.bases.Base.add.Goals.{After-vars-longest, After-arrange, After-assess}
+use Rattle.gr_prop.proofs.Arrivals.{pairs-back, kept-same, kept-broken, kept-forced, added-rests, added-broken, added-forced}
+use Rattle.gr_prop.proofs.bases.Base.add.Answers.Incoming.{few, watched, index-back, kept-at-rest, taken, come, known, lacks, now, pairs-now, stands, as-added}
+use Rattle.gr_prop.proofs.bases.Base.add.Goals.{After-vars-longest, After-lits-lits, After-arrange, After-assess}
 use Rattle.gr_prop.proofs.bases.Base.add.Goals as goal
 mod Incoming
 
@@ -44,27 +43,21 @@ invariant_of-self-in-Err c =
     )
 
 pub watch-requires : goal.watch-requires
-watch-requires c = record {
-  alike = c.self.invariant.1.vars' ∙ sym c.self.invariant.0.ready.vars;
-  known = subst (λ n. All (λ (l : Literal). l.index < n) c.lits-lits.result.now) (sym c.self.invariant.0.ready.vars)
-      (subst (All (λ (l : Literal). l.index < c.self.inside.trail.vars)) (sym c.lits-lits.ensures)
-      (known (goal.at.watch-requires c).After-arrange));
-}
+watch-requires c = watched (goal.at.watch-requires c).After-lits-lits
 
 pub invariant_of-self-in-Err-watch : goal.invariant_of-self-in-Err-watch
 invariant_of-self-in-Err-watch c =
     let s = c.self.inside in
     let g = (goal.at.invariant_of-self-in-Err-watch c).After-arrange in
-    let back = ap (λ x. x.clauses) c.remove-in-Err-watch-2.ensures ∙ taken g in (
+    let back = ap (λ x. x.clauses) c.remove-in-Err-watch-2.ensures ∙ taken g in
+    let index = c.remove-in-Err-watch.ensures ∙ ap (λ m. finite.remove m c.args.id) c.in_default.ensures.ok
+    ∙ index-back g in (
       kept-same s.arena.clauses c.remove-in-Err-watch-2.new.self.clauses s.trail s.watches c.watch.new.watches s.places
           c.remove-in-Err-watch.new.self s.head s.broken.items c.reserve.new.self.items s.quiet s.conflict back
-          c.in-Err-watch.ensures.err
-          (c.remove-in-Err-watch.ensures ∙ ap (λ m. finite.remove m c.args.id) c.in_default.ensures.ok ∙ remove-insert
-          s.places c.args.id c.in_ok-place.place
-          (unused-none (clauses_in s.arena.clauses) s.places c.args.id c.self.invariant.0.indexed (lacks g)))
-          c.reserve.ensures.items c.self.invariant.0,
-      pairs-back _ c.remove-in-Err-watch-2.new.self.clauses s.pairs
-          c.watch.new.pairs _ back c.in-Err-watch.ensures.err_pairs c.self.invariant.1,
+          c.in-Err-watch.ensures.err index c.reserve.ensures.items c.self.invariant.0,
+      pairs-back _
+          c.remove-in-Err-watch-2.new.self.clauses s.pairs c.watch.new.pairs _ back c.in-Err-watch.ensures.err_pairs
+          c.self.invariant.1,
     )
 
 pub assess-requires-clause-arranged : goal.assess-requires-clause-arranged
@@ -89,9 +82,9 @@ invariant_of-self-in-Broken c =
 pub assign-requires-clause-within : goal.assign-requires-clause-within
 assign-requires-clause-within c =
     let g = (goal.at.assign-requires-clause-within c).After-assess in
-    let a = (goal.at.assign-requires-clause-within c).After-arrange in
     forced-known c.self.inside.trail.assigned c.self.inside.trail.vars
-    (lits_at c.arrange.new.arena.clauses c.in_ok-place.place.0) c.in-Forced.lit (known a)
+    (lits_at c.arrange.new.arena.clauses c.in_ok-place.place.0) c.in-Forced.lit
+    (known (goal.at.assign-requires-clause-within c).After-arrange)
     (stands g (Forced c.in-Forced.lit) c.in-Forced.is)
 
 pub invariant_of-self-in-Forced : goal.invariant_of-self-in-Forced
@@ -106,13 +99,7 @@ invariant_of-self-in-Forced c =
     )
 
 pub invariant_of-self-in-Rests : goal.invariant_of-self-in-Rests
-invariant_of-self-in-Rests c =
-    let g = (goal.at.invariant_of-self-in-Rests c).After-assess in (
-      subst (λ xs. IsKeptBase c.arrange.new.arena.clauses c.self.inside.trail c.watch.new.watches c.insert.new.self
-          c.self.inside.head xs false None) (sym c.reserve.ensures.items)
-          (kept-rests (now g) (stands g Rests c.in-Rests.is)),
-      pairs-now g,
-    )
+invariant_of-self-in-Rests c = kept-at-rest (goal.at.invariant_of-self-in-Rests c).After-assess c.in-Rests.is
 
 pub returns-in-Broken : goal.returns-in-Broken
 returns-in-Broken c =

@@ -43,7 +43,8 @@ invariant_of-self-2 c =
     (λ t. length t.assigned) c.backtrack.ensures in (
       kept-open s.arena.clauses c.backtrack.new.self s.watches s.places _ s.broken.items false None
           (subst (λ n. IsReady s.arena.clauses c.backtrack.new.self s.watches n s.broken.items) (sym long)
-          (subst (λ t. IsReady s.arena.clauses t s.watches (length (up_to c.args.level s.trail.assigned)) s.broken.items)
+          (subst (λ t. IsReady s.arena.clauses t s.watches (length
+          (up_to c.args.level s.trail.assigned)) s.broken.items)
           (sym c.backtrack.ensures)
           (ready-back s.arena.clauses s.trail s.watches s.head c.args.level s.broken.items c.self.invariant.0.ready low)))
           c.self.invariant.0.indexed refl refl,

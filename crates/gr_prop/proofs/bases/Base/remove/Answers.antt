@@ -52,7 +52,8 @@ invariant_of-self c =
           None) (sym (ap (λ a. a.clauses) c.remove-2.ensures))
           (kept-removed s.arena.clauses s.trail s.watches s.places s.head s.broken.items s.quiet s.conflict c.args.place
           c.self.invariant.0 there free
-          c.unwatch.new.watches (c.unwatch.ensures.watches ∙ ap (λ ls. unwatching s.watches c.args.place (longer ls)) c.lits-lits.ensures)
+          c.unwatch.new.watches (c.unwatch.ensures.watches ∙ ap (λ ls. unwatching s.watches c.args.place
+          (longer ls)) c.lits-lits.ensures)
           c.remove.new.self (c.remove.ensures ∙ ap (finite.remove s.places) c.id.ensures)
           c.forget.new.places.items c.forget.ensures),
       subst (λ k. ArePaired k s.trail.vars c.unwatch.new.pairs) (sym (ap (λ a. a.clauses) c.remove-2.ensures))

@@ -87,7 +87,8 @@ walks c =
     let g = (goal.at.After-take-list c).After-negate-gone in
     let x = at-head g in
     round-begins s.arena.clauses c.pass.new.trail s.watches c.take-list.new.self c.take-list.result.items s.head x.0
-    c.negate-gone.result (passed-ready (goal.at.After-take-list c).After-pass) x.1.1.1 x.1.0 (gone-is g) c.take-list.ensures.rest
+    c.negate-gone.result (passed-ready (goal.at.After-take-list c).After-pass) x.1.1.1 x.1.0
+    (gone-is g) c.take-list.ensures.rest
     c.take-list.ensures.list
 
 -- the walked list is back
@@ -136,6 +137,19 @@ passed-on c m low = passed-walked c.loop-self.self-inside.arena.clauses _ c.pass
 -- they are as many as were counted
 pub counted : (c : In-None) → length c.lits-ahead.result.now ≡ length c.pass.new.trail.assigned
 counted c = ap length c.lits-ahead.ensures.lits ∙ length-map c.pass.new.trail.assigned (λ x. x.lit)
+
+pub ahead-low : (c : In-None) → c.loop-self.self-inside.head + 1 ≤ length c.lits-ahead.result.now
+ahead-low c = omega (arith, counted c, (at-head (goal.at.In-None c).After-negate-gone).1.1.1)
+
+pub ahead-high : (c : In-None) → length c.lits-ahead.result.now ≤ length c.walk-found.new.trail.assigned
+ahead-high c =
+    let more = ap length c.walk-found.ensures.progress.grown.assigned
+    ∙ length-append c.pass.new.trail.assigned c.walk-found.ensures.progress.grown.more in
+    omega (arith, counted c, more)
+
+pub passed-ahead : (c : In-None) → ArePassed c.walk-found.new.arena.clauses c.walk-found.new.trail.assigned
+    (take (length c.lits-ahead.result.now) c.walk-found.new.trail.assigned)
+passed-ahead c = passed-on c (length c.lits-ahead.result.now) (omega (arith, counted c))
 
 -- where no clause is false, one literal more was propagated
 pub goes-on : (c : In-None) → IsReady c.walk-found.new.arena.clauses c.walk-found.new.trail c.put.new.self
