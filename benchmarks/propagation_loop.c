@@ -45,7 +45,7 @@ struct base {
     uint32_t vars;
     uint32_t *words;
     size_t words_len, words_cap;
-    struct list *lists;
+    struct list *lists, *pairs;
     uint8_t *values;
     struct entry *entries;
     uint32_t *lits, *starts;
@@ -61,18 +61,43 @@ static inline void make_true(struct base *b, uint32_t lit, int has_reason, uint6
     b->lits[b->len++] = lit;
 }
 
-static void attach(struct base *b, uint32_t lit, uint64_t place, uint32_t blocker) {
-    struct list *list = &b->lists[lit];
+static void attach(struct list *lists, uint32_t lit, uint64_t place, uint32_t blocker) {
+    struct list *list = &lists[lit];
     if (list->len == list->cap) list->items = grown(list->items, &list->cap, sizeof *list->items);
     list->items[list->len++] = (struct watch){place, blocker};
 }
 
-/* Makes true what the clauses force: the place of a clause whose literals are all false, or NONE. */
+/* Takes the literals of the trail from an index on through the lists of their clauses of two literals: the place of one
+   whose literals are both false, or NONE. */
+static inline size_t pass(struct base *b, size_t index) {
+    const uint8_t *values = b->values;
+    for (; index < b->len; index++) {
+        struct list *list = &b->pairs[b->lits[index] ^ 1];
+        for (size_t i = 0, n = list->len; i < n; i++) {
+            struct watch watch = list->items[i];
+            uint8_t value = values[watch.blocker];
+            if (value == FALSE) return watch.place;
+            if (value == OPEN) make_true(b, watch.blocker, 1, watch.place);
+        }
+    }
+    return NONE;
+}
+
+#ifdef COUNT_VISITS
+static uint64_t visits;
+#endif
+
+/* Makes true what the clauses force: the place of a clause whose literals are all false, or NONE. The clauses of two
+   literals come first. */
 static size_t propagate(struct base *b) {
     if (b->broken != NONE) return b->broken;
     const uint8_t *values = b->values;
     uint32_t *words = b->words;
+    size_t ahead = b->head;
     while (b->head < b->len) {
+        size_t found = pass(b, ahead);
+        if (found != NONE) return found;
+        ahead = b->len;
         uint32_t gone = b->lits[b->head] ^ 1;
         struct list *list = &b->lists[gone];
         struct watch *items = list->items;
@@ -82,6 +107,9 @@ static size_t propagate(struct base *b) {
                 i++;
                 continue;
             }
+#ifdef COUNT_VISITS
+            visits++;
+#endif
             uint64_t place = items[i].place;
             uint32_t *lits = words + place + HEAD;
             if (lits[0] == gone) {
@@ -100,7 +128,7 @@ static size_t propagate(struct base *b) {
                 uint32_t next = lits[k];
                 lits[1] = next;
                 lits[k] = gone;
-                attach(b, next, place, other);
+                attach(b->lists, next, place, other);
                 items[i] = items[--n];
                 continue;
             }
@@ -160,8 +188,9 @@ static void add(struct base *b, uint64_t id, const uint32_t *lits, size_t count)
     if (count >= 2) {
         bring_free(b, own, count, 0);
         bring_free(b, own, count, 1);
-        attach(b, own[0], place, own[1]);
-        attach(b, own[1], place, own[0]);
+        struct list *lists = count == 2 ? b->pairs : b->lists;
+        attach(lists, own[0], place, own[1]);
+        attach(lists, own[1], place, own[0]);
     }
     if (count && b->values[own[0]] == TRUE) return;
     if (!count || b->values[own[0]] == FALSE) {
@@ -212,6 +241,7 @@ static struct base *base_of(const char *file) {
     struct base *b = room(1, sizeof *b);
     b->vars = (uint32_t)vars;
     b->lists = room(2 * vars, sizeof *b->lists);
+    b->pairs = room(2 * vars, sizeof *b->pairs);
     b->values = room(2 * vars, 1);
     b->entries = room(vars, sizeof *b->entries);
     b->lits = room(vars, sizeof *b->lits);
@@ -270,5 +300,8 @@ int main(int count, char **words) {
     if (count != 4 || strcmp(words[1], "propagation")) return 2;
     struct base *b = base_of(words[2]);
     printf("%llu\n", (unsigned long long)rounds_of(b, (uint32_t)strtoul(words[3], NULL, 10)));
+#ifdef COUNT_VISITS
+    fprintf(stderr, "visits %llu\n", (unsigned long long)visits);
+#endif
     return 0;
 }

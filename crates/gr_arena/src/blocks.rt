@@ -34,7 +34,10 @@ pub(crate) fn swap_in(words: &mut [Word], place: usize, i: usize, j: usize)
     requires second { place + 4 + j < length words.old }
     ensures { words.new ≡ swap words.old (place + 4 + i) (place + 4 + j) }
 {
-    words.swap(place + 4 + i, place + 4 + j);
+    // Plain writes: a swap of the slice would test whether the indices are apart.
+    let first = words[place + 4 + i];
+    words[place + 4 + i] = words[place + 4 + j];
+    words[place + 4 + j] = first;
 }
 
 /// Marks the clause at a place as removed.

@@ -19,16 +19,17 @@ use Rattle.gr_watch.specs.declared.lists.Watch.{Watch}
 use Rattle.gr_watch.specs.WatchLists.{WatchLists, list_of}
 use Rattle.gr_prop.specs.Bases.{clauses_in, family, base_clause}
 use Rattle.gr_prop.specs.BaseChanges.{with_forced, IsLearnt}
-use Rattle.gr_prop.specs.Watching.{Store, lits_at, bit, occurs, count_in, watched, IsWatching, IsBlocked, AreBlocked, AllDistinct, AreKnown, IsGuarded, Guards, AllFalse, AreAt, AreBroken, IsSound, IsReady, is_in}
+use Rattle.gr_prop.specs.Watching.{Store, lits_at, bit, occurs, is_pair, longer, paired, IsOther, ArePaired, IsWatching, IsBlocked, AreBlocked, AllDistinct, AreKnown, IsGuarded, Guards, AllFalse, AreAt, AreBroken, IsSound, IsReady, is_in}
 use Rattle.gr_prop.specs.Visits.{IsReordered}
-use Rattle.gr_prop.specs.Additions.{attached, watching_too, StandsAs}
+use Rattle.gr_prop.specs.Additions.{watching_too, StandsAs}
 use Rattle.gr_prop.specs.declared.additions.Standing.TheVariants.{Forced, Rests}
 use Rattle.gr_prop.proofs.TrailSets.{true_in-more, prefix-within, open-false, at-append, or-none, or-first, or-second}
 use Rattle.gr_prop.proofs.Kept.{guarded-more}
 use Rattle.gr_prop.proofs.Stores.{by_place, get-insert-other, lits-insert, lits-insert-other, lits-other, none-lits, reordered-clauses, clauses-insert, family-there, family-some, family-at}
 use Rattle.gr_prop.proofs.Sound.{sound-forced, sound-more}
-use Rattle.gr_prop.proofs.Counts.{code-low, attached-count, attached-length, attached-blocked}
-use Rattle.gr_prop.proofs.Forcing.{rests-zero, broken-zero, guarded-rests, forces-forced, forced-known, guarded-forced}
+use Rattle.gr_prop.proofs.Counts.{longer-all, longer-own, paired-all, paired-own, flip-same}
+use Rattle.gr_prop.proofs.Attaching.{added-length, added-vars, watching-added, all-added}
+use Rattle.gr_prop.proofs.Forcing.{none-apart, rests-zero, broken-zero, guarded-rests, forces-forced, forced-known, guarded-forced}
 
 module _ (k n : Store) (t : TrailState) (ws : WatchLists) (head : ℕ) (broken : List Place) (place : Place) (s : Stored)
     (ready : IsReady k t ws head broken) (fresh : finite.get k place.0 ≡ None)
@@ -62,49 +63,9 @@ module _ (k n : Store) (t : TrailState) (ws : WatchLists) (head : ℕ) (broken :
   pub clauses-added : clauses_in n ≡ finite.insert (clauses_in k) place.0 (base_clause s)
   clauses-added = reordered-clauses (finite.insert k place.0 s) n place.0 r ∙ clauses-insert k place.0 s
 
-  both-bits : (m j o : ℕ) (a b : Bool) → j ≡ 0 → m ≡ j + (if a then 1 else 0) → o ≡ m + (if b then 1 else 0) → o ≡
-      bit a + bit b
-  both-bits m j o a b e f g = omega arith
-
-  no-bits : (m j o : ℕ) (a b : Bool) → m ≡ j + (if a then 0 else 0) → o ≡ m + (if b then 0 else 0) → o ≡ j
-  no-bits m j o true true f g = omega arith
-  no-bits m j o true false f g = omega arith
-  no-bits m j o false true f g = omega arith
-  no-bits m j o false false f g = omega arith
-
-  -- the lists count the new watches
-  watching-added : (e : List Literal) → c ≡ e → All (λ (l : Literal). l.index < t.vars) e → IsWatching n
-      (watching_too ws place e)
-  watching-added [] is all = by_place (λ q. (l : Literal) → count_in q (list_of ws l) ≡ watched (lits_at n q) l) place.0
-      (λ l. ready.watching place.0 l ∙ ap (λ x. watched x l) (none-lits k place.0 fresh) ∙ sym
-      (ap (λ x. watched x l) is))
-      (λ q apart l. ready.watching q l ∙ ap (λ x. watched x l) (sym (old-lits q apart)))
-  watching-added (w ∷ []) is all = by_place (λ q. (l : Literal) → count_in q (list_of ws l) ≡ watched (lits_at n q)
-      l) place.0
-      (λ l. ready.watching place.0 l ∙ ap (λ x. watched x l) (none-lits k place.0 fresh) ∙ sym
-      (ap (λ x. watched x l) is))
-      (λ q apart l. ready.watching q l ∙ ap (λ x. watched x l) (sym (old-lits q apart)))
-  watching-added (w ∷ o ∷ rest) is all =
-      let x : Watch = record { place = place; blocker = o } in
-      let y : Watch = record { place = place; blocker = w } in
-      let one : code_of w < length ws.lists = code-low w t.vars (length ws.lists) ready.even (all 0 w (omega arith)) in
-      let two : code_of o < length (attached ws w x).lists = subst (λ m. code_of o < m)
-      (sym (attached-length ws w x)) (code-low o t.vars (length ws.lists) ready.even (all 1 w (omega arith))) in
-      by_place (λ q. (l : Literal) → count_in q (list_of (attached (attached ws w x) o y) l) ≡ watched (lits_at n q)
-      l) place.0
-      (λ l.
-      let a = attached-count ws w x place.0 l one in
-      let b = attached-count (attached ws w x) o y place.0 l two in
-      let h : nat_eq place.0 place.0 ≡ true = grind (arith, nat_tests) in
-      let e : count_in place.0 (list_of ws l) ≡ 0 = ready.watching place.0 l ∙ ap (λ z. watched z l)
-      (none-lits k place.0 fresh) in
-      both-bits _ _ _ (same_literal l w) (same_literal l o) e (rw h at a) (rw h at b) ∙ sym (ap (λ z. watched z l) is))
-      (λ q apart l.
-      let a = attached-count ws w x q l one in
-      let b = attached-count (attached ws w x) o y q l two in
-      let h : nat_eq place.0 q ≡ false = grind (arith, nat_tests) in
-      no-bits _ _ _ (same_literal l w) (same_literal l o) (rw h at a) (rw h at b) ∙ ready.watching q l ∙ ap
-      (λ z. watched z l) (sym (old-lits q apart)))
+  -- no clause was at the place
+  none-was : (kind : List Literal → List Literal) → kind [] ≡ [] → kind (lits_at k place.0) ≡ []
+  none-was kind is = ap kind (none-lits k place.0 fresh) ∙ is
 
   -- an old watch is of an old clause
   old-blocked : AreBlocked n ws
@@ -119,30 +80,20 @@ module _ (k n : Store) (t : TrailState) (ws : WatchLists) (head : ℕ) (broken :
               (none-lits k place.0 fresh) in absurd (cc))
               (λ q apart h. ap (λ z. members z w.blocker) (old-lits q apart) ∙ h)
 
-  blocked-added : (e : List Literal) → c ≡ e → All (λ (l : Literal). l.index < t.vars) e → AreBlocked n
-      (watching_too ws place e)
-  blocked-added [] is all = old-blocked
-  blocked-added (w ∷ []) is all = old-blocked
-  blocked-added (w ∷ o ∷ rest) is all =
-      let x : Watch = record { place = place; blocker = o } in
-      let y : Watch = record { place = place; blocker = w } in
-      let one : code_of w < length ws.lists = code-low w t.vars (length ws.lists) ready.even (all 0 w (omega arith)) in
-      let two : code_of o < length (attached ws w x).lists = subst (λ m. code_of o < m)
-      (sym (attached-length ws w x)) (code-low o t.vars (length ws.lists) ready.even (all 1 w (omega arith))) in
-      attached-blocked n (attached ws w x) o y two (ap (λ z. members z w) is ∙ members-first w (o ∷ rest))
-      (attached-blocked n ws w x one (ap (λ z. members z o) is ∙ members-later o w (o ∷ rest) (members-first o rest))
-      old-blocked)
+  longer-known : All (λ (l : Literal). l.index < t.vars) (longer c)
+  longer-known = longer-all (λ (l : Literal). l.index < t.vars) c clause-known
 
-  added-length : (e : List Literal) → length (watching_too ws place e).lists ≡ length ws.lists
-  added-length [] = refl
-  added-length (w ∷ []) = refl
-  added-length (w ∷ o ∷ rest) = attached-length (attached ws w (record { place = place; blocker = o })) o
-      (record { place = place; blocker = w }) ∙ attached-length ws w (record { place = place; blocker = o })
+  watching-longer : IsWatching longer n (watching_too ws place (longer c))
+  watching-longer = watching-added ws t.vars place ready.even longer k n ready.watching (none-was longer refl) old-lits
+      (longer c) refl longer-known
 
-  added-vars : (e : List Literal) → (watching_too ws place e).vars ≡ ws.vars
-  added-vars [] = refl
-  added-vars (w ∷ []) = refl
-  added-vars (w ∷ o ∷ rest) = refl
+  blocked-longer : AreBlocked n (watching_too ws place (longer c))
+  blocked-longer = all-added ws t.vars place ready.even (λ _. IsBlocked n) (longer c) longer-known old-blocked
+      (λ w o rest is.
+      let own = longer-own c (o ∷ rest) w is in (
+        ap (λ z. members z o) own ∙ members-later o w (o ∷ rest) (members-first o rest),
+        ap (λ z. members z w) own ∙ members-first w (o ∷ rest),
+      ))
 
   distinct-added : AllDistinct n
   distinct-added = by_place (λ q. (index : ℕ) → occurs (lits_at n q) index ≤ 1) place.0 clause-distinct
@@ -191,16 +142,15 @@ module _ (k n : Store) (t : TrailState) (ws : WatchLists) (head : ℕ) (broken :
   -- the base with the clause, over a trail that has grown or not
   ready-added : (xs : List Assigned) (other : List Place) → IsSound (clauses_in n) (record t { assigned = xs }) →
       head ≤ length xs → Guards n other xs (take head xs) → AreAt t.depth (drop head xs)
-      → AreBroken n (record t { assigned = xs }) other → IsReady n (record t { assigned = xs }) (watching_too ws
-      place c)
-      head other
+      → AreBroken n (record t { assigned = xs }) other → IsReady n (record t { assigned = xs })
+      (watching_too ws place (longer c)) head other
   ready-added xs other sound within guards queue broken' = record {
-    watching = watching-added c refl clause-known;
-    blocked = blocked-added c refl clause-known;
+    watching = watching-longer;
+    blocked = blocked-longer;
     distinct = distinct-added;
     known = known-added;
-    vars = added-vars c ∙ ready.vars;
-    even = added-length c ∙ ready.even;
+    vars = added-vars ws place (longer c) ∙ ready.vars;
+    even = added-length ws place (longer c) ∙ ready.even;
     sound = sound;
     within = within;
     guards = guards;
@@ -210,7 +160,7 @@ module _ (k n : Store) (t : TrailState) (ws : WatchLists) (head : ℕ) (broken :
 
   -- a clause at rest
   pub ready-rests : (t.depth ≡ 0) ⊎ IsLearnt t c → StandsAs t.assigned c Rests → IsReady n t
-      (watching_too ws place c) head broken
+      (watching_too ws place (longer c)) head broken
   ready-rests at stands =
       let z : t.depth ≡ 0 = rests-zero t c at stands in
       ready-added t.assigned broken sound-added ready.within
@@ -220,8 +170,8 @@ module _ (k n : Store) (t : TrailState) (ws : WatchLists) (head : ℕ) (broken :
       ready.queue (broken-added t refl (λ q e. e))
 
   -- a clause that is false
-  pub ready-broken : (t.depth ≡ 0) ⊎ IsLearnt t c → AllFalse t.assigned c → IsReady n t (watching_too ws place c)
-      head (broken ++ place ∷ [])
+  pub ready-broken : (t.depth ≡ 0) ⊎ IsLearnt t c → AllFalse t.assigned c → IsReady n t
+      (watching_too ws place (longer c)) head (broken ++ place ∷ [])
   ready-broken at falses =
       let old = broken-added t refl (λ q e. e) in
       ready-added t.assigned (broken ++ place ∷ []) sound-added ready.within
@@ -247,7 +197,7 @@ module _ (k n : Store) (t : TrailState) (ws : WatchLists) (head : ℕ) (broken :
 
   -- a clause that forces
   pub ready-forced : (t.depth ≡ 0) ⊎ IsLearnt t c → (l : Literal) → StandsAs t.assigned c (Forced l) → IsReady n
-      (with_forced t l place) (watching_too ws place c) head broken
+      (with_forced t l place) (watching_too ws place (longer c)) head broken
   ready-forced at l stands =
       let item : Assigned = record { lit = l; level = t.depth; reason = Some place } in
       let front : take head (t.assigned ++ item ∷ []) ≡ take head t.assigned = take-append-le head t.assigned
@@ -266,3 +216,46 @@ module _ (k n : Store) (t : TrailState) (ws : WatchLists) (head : ℕ) (broken :
       (subst (AreAt t.depth) (sym (drop-append-le head t.assigned (item ∷ []) ready.within))
       (at-append t.depth (drop head t.assigned) (item ∷ []) ready.queue (refl, tt)))
       (broken-added (with_forced t l place) refl (true_in-more t.assigned (item ∷ [])))
+
+  -- the lists of the clauses of two literals with the clause
+  pub paired-added : (ps : WatchLists) → ArePaired k t.vars ps
+      → ArePaired n t.vars (watching_too ps place (paired c))
+  paired-added ps p = record {
+    watching = watching-added ps t.vars place p.even paired k n p.watching (none-was paired refl) old-lits (paired c)
+        refl paired-known;
+    others = all-added ps t.vars place p.even (IsOther n) (paired c) paired-known
+        (λ l. All-weaker (IsOther k l) (IsOther n l) (λ w h. old-other l w h) (list_of ps l) (p.others l))
+        (λ w o rest is. new-others w o rest (paired-own c (o ∷ rest) w is));
+    vars' = added-vars ps place (paired c) ∙ p.vars';
+    even = added-length ps place (paired c) ∙ p.even;
+  }
+    where
+      paired-known : All (λ (l : Literal). l.index < t.vars) (paired c)
+      paired-known = paired-all (λ (l : Literal). l.index < t.vars) c clause-known
+
+      apart-from : (q : ℕ) (b : Literal) → members (lits_at k q) b ≡ true → q ≢ place.0
+      apart-from q b m e = let f : members (lits_at k q) b ≡ false = ap (λ z. members (lits_at k z) b) e
+          ∙ ap (λ z. members z b) (none-lits k place.0 fresh) in cc
+
+      old-other : (l : Literal) (w : Watch) → IsOther k l w → IsOther n l w
+      old-other l w h =
+          let same : lits_at k w.place.0 ≡ lits_at n w.place.0 =
+          sym (old-lits w.place.0 (apart-from w.place.0 l h.own)) in
+          record {
+            two = ap is_pair (sym same) ∙ h.two;
+            own = ap (λ z. members z l) (sym same) ∙ h.own;
+            other = ap (λ z. members z w.blocker) (sym same) ∙ h.other;
+            apart = h.apart;
+          }
+
+      new-others : (w o : Literal) (rest : List Literal) → (c ≡ w ∷ o ∷ rest) × (is_pair c ≡ true)
+          → IsOther n w (record { place = place; blocker = o }) × IsOther n o (record { place = place; blocker = w })
+      new-others w o rest is =
+          let differ : same_literal o w ≡ false = none-apart w o rest
+          (subst (λ z. occurs z o.index ≤ 1) is.0 (clause-distinct o.index)) in
+          let first : members c w ≡ true = ap (λ z. members z w) is.0 ∙ members-first w (o ∷ rest) in
+          let second : members c o ≡ true =
+          ap (λ z. members z o) is.0 ∙ members-later o w (o ∷ rest) (members-first o rest) in (
+            record { two = is.1; own = first; other = second; apart = flip-same o w differ },
+            record { two = is.1; own = second; other = first; apart = differ },
+          )

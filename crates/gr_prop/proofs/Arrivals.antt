@@ -16,7 +16,7 @@ use Rattle.gr_trail.specs.Trails.{Assigned, TrailState, true_in, value_in}
 use Rattle.gr_watch.specs.WatchLists.{WatchLists}
 use Rattle.gr_prop.specs.Bases.{BaseClause, BaseState, Clauses, base_clause, clauses_in, HasIdAt, LacksId}
 use Rattle.gr_prop.specs.BaseChanges.{with_forced, IsLearnt, IsAddable, IsAdded}
-use Rattle.gr_prop.specs.Watching.{Store, lits_at, occurs, AllFalse, IsReady, IsIndexed, IsKeptBase}
+use Rattle.gr_prop.specs.Watching.{Store, lits_at, longer, paired, ArePaired, occurs, AllFalse, IsReady, IsIndexed, IsKeptBase}
 use Rattle.gr_prop.specs.Visits.{IsReordered}
 use Rattle.gr_prop.specs.Additions.{IsArranged, watching_too, StandsAs}
 use Rattle.gr_prop.specs.declared.additions.Standing.{Standing}
@@ -25,7 +25,7 @@ use Rattle.gr_prop.proofs.TrailSets.{open-false, false-value}
 use Rattle.gr_prop.proofs.Stores.{by_place, get-insert-same, get-insert-other, get-remove-same, get-remove-other, same-map, lits-insert, get-clauses_in}
 use Rattle.gr_prop.proofs.Facts.{normal-distinct}
 use Rattle.gr_prop.proofs.Keeping.{kept-open}
-use Rattle.gr_prop.proofs.Adding.{ready-rests, ready-broken, ready-forced, clause-distinct, clause-members, clauses-added}
+use Rattle.gr_prop.proofs.Adding.{paired-added, ready-rests, ready-broken, ready-forced, clause-distinct, clause-members, clauses-added}
 use Rattle.gr_prop.proofs.Forcing.{forces-forced, rests-forces, stands-false}
 
 -- ---- ids
@@ -148,7 +148,7 @@ pub record IsComing (k n : Store) (t : TrailState) (ws vs : WatchLists) (places 
     pub kept : IsKeptBase k t ws places head broken quiet conflict
     pub come : IsArrived k n t place s
     pub unused : LacksId (clauses_in k) s.id
-    pub lists : vs ≡ watching_too ws place (lits_at n place.0)
+    pub lists : vs ≡ watching_too ws place (longer (lits_at n place.0))
     pub index : spots ≡ finite.insert places s.id place
 
 module _ {k n : Store} {t : TrailState} {ws vs : WatchLists} {places spots : finite.FinMap nat_cmp Place} {head : ℕ}
@@ -189,6 +189,13 @@ module _ {k n : Store} {t : TrailState} {ws vs : WatchLists} {places spots : fin
       (ready-forced k n t ws head broken place s c.kept.ready c.come.fresh c.come.reordered c.come.distinct
       c.come.known c.come.at l stands)))
       indexed-now refl refl
+
+  -- the lists of the clauses of two literals have it
+  pub pairs-come : (ps qs : WatchLists) → ArePaired k t.vars ps
+      → qs ≡ watching_too ps place (paired (lits_at n place.0)) → ArePaired n t.vars qs
+  pairs-come ps qs p is = subst (ArePaired n t.vars) (sym is)
+      (paired-added k n t ws head broken place s c.kept.ready c.come.fresh c.come.reordered c.come.distinct
+      c.come.known ps p)
 
   -- what the clause forces, by its literals in either order
   forces-order : (l : Literal) → Forces (true_in t.assigned) (members s.lits) l → Forces (true_in t.assigned)
@@ -253,6 +260,10 @@ kept-same k n t ws vs places spots head broken other quiet conflict a b d e kept
     (subst (λ x. IsKeptBase k t x spots head other quiet conflict) (sym b)
     (subst (λ x. IsKeptBase k t ws x head other quiet conflict) (sym d)
     (subst (λ x. IsKeptBase k t ws places head x quiet conflict) (sym e) kept)))
+
+pub pairs-back : (k n : Store) (ps qs : WatchLists) (vars : ℕ) → n ≡ k → qs ≡ ps → ArePaired k vars ps
+    → ArePaired n vars qs
+pairs-back k n ps qs vars a b p = subst (λ x. ArePaired x vars qs) (sym a) (subst (ArePaired k vars) (sym b) p)
 
 pub stands-at : (xs : List Assigned) (c d : List Literal) (a b : Standing) → d ≡ c → a ≡ b → StandsAs xs d a →
     StandsAs xs c b

@@ -16,10 +16,12 @@ use Rattle.gr_watch.specs.WatchLists.{WatchLists, list_of}
 use Rattle.gr_prop.specs.Bases.{BaseClause, base_clause, clauses_in, family, IsFoundedBy, AreFounded, HasIdAt}
 use Rattle.gr_prop.specs.BaseChanges.{moved_place, moved_assigned, IsCompacted}
 use Rattle.gr_prop.specs.Compactions.{moved_watch, AreMoved, HasMovedReason}
-use Rattle.gr_prop.specs.Watching.{lits_at, occurs, count_in, watched, IsBlocked, IsGuarded, Guards, AllFalse, AreAt, IsReady, IsIndexed, IsKeptBase, is_in}
+use Rattle.gr_prop.specs.Watching.{lits_at, occurs, count_in, longer, IsBlocked, IsGuarded, Guards, AllFalse, AreAt, IsReady, IsIndexed, IsKeptBase, is_in}
 use Rattle.gr_prop.proofs.Mapped.{mapped-true, mapped-guarded, mapped-at, mapped-within, take-mapped, drop-mapped}
 use Rattle.gr_logic.proofs.SameLiteral.{or-true}
 use Rattle.gr_prop.proofs.Stores.{family-some, get-clauses_in}
+use Rattle.gr_prop.proofs.Counts.{member-there}
+use Rattle.gr_prop.proofs.MovedPairs.{moved-watching}
 use Rattle.gr_prop.proofs.MovedClauses.{moved-lit, moved-level, moved-climbs, moved-some, from-some, place-is, same-lits, there-new, everywhere, moved-count, moved-none, moved-all, moved-founded, moved-in, broken-from, some-value}
 
 module _ (old new : ArenaState) (moves : finite.FinMap nat_cmp ℕ) (c : IsCompaction old new moves)
@@ -32,16 +34,8 @@ module _ (old new : ArenaState) (moves : finite.FinMap nat_cmp ℕ) (c : IsCompa
   -- each watch's clause was moved
   pub watches-moved : AreMoved moves ws
   watches-moved l i d low = moved-some old new moves c (get_or (list_of ws l) i d).place.0
-      (blocked-there (get_or (list_of ws l) i d).place.0 (get_or (list_of ws l) i d).blocker
+      (member-there old.clauses (get_or (list_of ws l) i d).place.0 (get_or (list_of ws l) i d).blocker
       (kept.ready.blocked l i d low))
-    where
-      blocked-there : (q : ℕ) (b : Literal) → members (lits_at old.clauses q) b ≡ true → IsSome (finite.get
-          old.clauses q)
-      blocked-there q b m = go (finite.get old.clauses q) m
-        where
-          go : (o : Option Stored) → members (unwrap_or o no_clause).lits b ≡ true → IsSome o
-          go None e = absurd (cc)
-          go (Some s) e = refl
 
   -- each reason was
   pub reasons-moved : All (HasMovedReason moves) t.assigned
@@ -97,9 +91,7 @@ module _ (old new : ArenaState) (moves : finite.FinMap nat_cmp ℕ) (c : IsCompa
     ready-moved : IsReady new.clauses u vs head (map (moved_place moves) broken)
     ready-moved = record {
       watching = λ q l. ap (count_in q) (lists l)
-          ∙ everywhere old new moves c (λ q c'. count_in q (map (moved_watch moves) (list_of ws l)) ≡ watched c' l)
-          (λ p q e. moved-count old new moves c p q (list_of ws l) e (watches-moved l) ∙ kept.ready.watching p l)
-          (λ q no'. moved-none old new moves c q (list_of ws l) no' (watches-moved l)) q;
+          ∙ moved-watching old new moves c longer refl ws kept.ready.watching watches-moved q l;
       blocked = λ l. subst (All (IsBlocked new.clauses)) (sym (lists l))
           (moved-all old new moves c (list_of ws l) (kept.ready.blocked l) (watches-moved l));
       distinct = everywhere old new moves c (λ q c'. (i : ℕ) → occurs c' i ≤ 1) (λ p q e i. kept.ready.distinct p i)

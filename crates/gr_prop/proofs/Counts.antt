@@ -1,14 +1,17 @@
 -- counting places in lists of watches
-use Rattle.std.proofs.Common.{◌≡◌, ◌≢◌, ◌⊎◌, ℕ, ◌+◌, ◌-◌, ◌*◌, ◌<◌, ◌≤◌, true, false, All, List, [], ◌∷◌, ◌++◌, Some, None, IsSome, get_or, set, take, length, refl, sym, ap, ◌∙◌, subst, inl, inr, arith, nat_eq, if◌then◌else◌}
+use Rattle.std.proofs.Common.{◌≡◌, ◌≢◌, ◌⊎◌, ℕ, ◌+◌, ◌-◌, ◌*◌, ◌<◌, ◌≤◌, Bool, true, false, ◌||◌, All, List, [], ◌∷◌, ◌++◌, Some, None, IsSome, get_or, set, take, length, refl, sym, ap, ◌∙◌, subst, inl, inr, arith, nat_eq, if◌then◌else◌}
 use Rattle.std.proofs.lemmas.Bool.Decides.{nat_tests}
 use Rattle.std.proofs.lemmas.List.{get_or-set_same, length-set, take-set, take-take}
 use Rattle.std.proofs.lemmas.List.Sums.{get_or-le-sum_by, sum_by-swap_remove, sum_by_push, sum_by_more, sum_by-set}
-use Rattle.std.proofs.lemmas.List.Elements.{All-push, All-tail, All-weaker}
+use Rattle.std.proofs.lemmas.List.Elements.{All-nil, All-push, All-tail, All-weaker}
 use Rattle.std.proofs.lemmas.List.Sorted.{All-permutation, IsPermutation-swap_remove}
+use Rattle.std.proofs.lemmas.List.Sorted.{length_permutation}
+use Rattle.std.specs.List.Sorted.{IsPermutation}
 use Rattle.std.specs.List.{swap_remove}
 use Rattle.std.specs.Option.{unwrap_or}
 use Rattle.std.specs.FinMap as finite
 use Rattle.gr_logic.specs.Literals.{Literal, same_literal}
+use Rattle.gr_logic.specs.Rup.{members}
 use Rattle.gr_logic.specs.Codes.{code_of}
 use Rattle.gr_logic.proofs.Sound.{same_literal-is}
 use Rattle.gr_logic.proofs.SameLiteral.{same_literal-itself}
@@ -16,7 +19,7 @@ use Rattle.gr_arena.specs.Arenas.{no_clause}
 use Rattle.gr_watch.specs.declared.lists.Watch.{Watch}
 use Rattle.gr_watch.specs.WatchLists.{WatchLists, list_of, with_list}
 use Rattle.gr_watch.proofs.Edits.{other_list}
-use Rattle.gr_prop.specs.Watching.{Store, lits_at, bit, count_in, watched, IsWatching, IsBlocked, AreBlocked}
+use Rattle.gr_prop.specs.Watching.{Store, lits_at, bit, count_in, watched, is_pair, longer, paired, IsWatching, IsBlocked, AreBlocked}
 use Rattle.gr_prop.specs.Visits.{IsWatchedIn, IsReordered, IsTurned}
 use Rattle.gr_prop.specs.Additions.{attached}
 use Rattle.gr_prop.proofs.Stores.{by_place, lits-other, reordered-members}
@@ -56,6 +59,24 @@ watched-in (w ∷ o ∷ rest) l h =
             | false ↦ λ _ h. absurd (omega arith)
           ] refl
     ] refl h
+
+-- a literal of a clause is known where all are
+pub member-known : {vars : ℕ} (c : List Literal) (l : Literal) → All (λ (q : Literal). q.index < vars) c
+    → members c l ≡ true → l.index < vars
+member-known [] l all m = absurd (cc)
+member-known {vars} (x ∷ xs) l all m =
+    elim (same_literal l x) as (λ b. same_literal l x ≡ b → (b || members xs l) ≡ true → l.index < vars) [
+      | true ↦ λ is _. subst (λ (q : Literal). q.index < vars) (sym (same_literal-is l x is)) (all 0 x (omega arith))
+      | false ↦ λ _ rest. member-known xs l (All-tail (λ (q : Literal). q.index < vars) x xs all) rest
+    ] refl m
+
+-- a clause that has literals is there
+pub member-there : (k : Store) (place : ℕ) (l : Literal) → members (lits_at k place) l ≡ true
+    → IsSome (finite.get k place)
+member-there k place l = elim (finite.get k place) as (λ o. members (unwrap_or o no_clause).lits l ≡ true → IsSome o) [
+  | None ↦ λ m. absurd (cc)
+  | Some s ↦ λ _. refl
+]
 
 pub there-in : (k : Store) (place : ℕ) (l : Literal) → IsWatchedIn (lits_at k place) l → IsSome (finite.get k place)
 there-in k place l = elim (finite.get k place) as (λ o. IsWatchedIn (unwrap_or o no_clause).lits l → IsSome o) [
@@ -160,6 +181,53 @@ attached-blocked k ws a new room one all =
     by_list (λ _ x. All (IsBlocked k) x) ws a (list_of ws a ++ new ∷ []) room
     (All-push (IsBlocked k) (list_of ws a) new (all a) one) (λ q apart. all q)
 
+-- ---- kinds of clauses
+-- the order of the literals does not matter to the kind
+pub pair-permuted : (c d : List Literal) → IsPermutation c d → is_pair c ≡ is_pair d
+pair-permuted c d p = ap (λ n. nat_eq n 2) (sym (length_permutation c d p))
+
+pub longer-watched : (c d : List Literal) (l : Literal) → is_pair c ≡ is_pair d → watched c l ≡ watched d l
+    → watched (longer c) l ≡ watched (longer d) l
+longer-watched c d l kind same = ap (λ b. watched (if b then [] else c) l) kind ∙ go (is_pair d)
+  where
+    go : (b : Bool) → watched (if b then [] else c) l ≡ watched (if b then [] else d) l
+    go true = refl
+    go false = same
+
+-- what is among the first two of the clause of a kind is among those of the clause
+pub longer-in : (c : List Literal) (l : Literal) → 1 ≤ watched (longer c) l → IsWatchedIn c l
+longer-in c l = elim (is_pair c) as (λ b. 1 ≤ watched (if b then [] else c) l → IsWatchedIn c l) [
+  | true ↦ λ h. absurd (omega (arith, h))
+  | false ↦ watched-in c l
+]
+
+-- such a clause has more than two literals
+pub longer-is : (c : List Literal) (l : Literal) → 1 ≤ watched (longer c) l → is_pair c ≡ false
+longer-is c l = elim (is_pair c) as (λ b. 1 ≤ watched (if b then [] else c) l → b ≡ false) [
+  | true ↦ λ h. absurd (omega (arith, h))
+  | false ↦ λ _. refl
+]
+
+-- what holds of all literals of a clause holds of those of the clause of a kind
+pub longer-all : (P : Literal → Type 0) (c : List Literal) → All P c → All P (longer c)
+longer-all P c all = elim (is_pair c) as (λ b. All P (if b then [] else c)) [ true ↦ All-nil P | false ↦ all ]
+
+pub paired-all : (P : Literal → Type 0) (c : List Literal) → All P c → All P (paired c)
+paired-all P c all = elim (is_pair c) as (λ b. All P (if b then c else [])) [ true ↦ all | false ↦ All-nil P ]
+
+-- where a clause of a kind has literals, it is the clause
+pub longer-own : (c xs : List Literal) (x : Literal) → longer c ≡ x ∷ xs → c ≡ x ∷ xs
+longer-own c xs x = elim (is_pair c) as (λ b. (if b then [] else c) ≡ x ∷ xs → c ≡ x ∷ xs) [
+  | true ↦ λ e. absurd (cc)
+  | false ↦ λ e. e
+]
+
+pub paired-own : (c xs : List Literal) (x : Literal) → paired c ≡ x ∷ xs → (c ≡ x ∷ xs) × (is_pair c ≡ true)
+paired-own c xs x = elim (is_pair c) as (λ b. (if b then c else []) ≡ x ∷ xs → (c ≡ x ∷ xs) × (b ≡ true)) [
+  | true ↦ λ e. (e, refl)
+  | false ↦ λ e. absurd (cc)
+]
+
 -- ---- the second watch turned
 pub turned-watched : (c d : List Literal) (gone : Literal) → IsTurned c d gone → (l : Literal) → watched d l ≡
     watched c l
@@ -174,8 +242,8 @@ turned-watched c d gone t l = ap (λ x. watched x l) t.is ∙ back t.was
         f ∙ ap (λ x. watched x l) (sym e)
 
 pub turned-watching : (k n : Store) (ws : WatchLists) (place : ℕ) (gone : Literal) → IsReordered k n place
-    → IsTurned (lits_at k place) (lits_at n place) gone → IsWatching k ws → IsWatching n ws
+    → IsTurned (lits_at k place) (lits_at n place) gone → IsWatching longer k ws → IsWatching longer n ws
 turned-watching k n ws place gone r t all =
-    by_place (λ q. (l : Literal) → count_in q (list_of ws l) ≡ watched (lits_at n q) l) place
-    (λ l. all place l ∙ sym (turned-watched _ _ gone t l))
-    (λ q apart l. all q l ∙ ap (λ c. watched c l) (sym (lits-other k n place r q apart)))
+    by_place (λ q. (l : Literal) → count_in q (list_of ws l) ≡ watched (longer (lits_at n q)) l) place
+    (λ l. all place l ∙ longer-watched _ _ l (pair-permuted _ _ r.lits) (sym (turned-watched _ _ gone t l)))
+    (λ q apart l. all q l ∙ ap (λ c. watched (longer c) l) (sym (lits-other k n place r q apart)))

@@ -13,7 +13,7 @@ use Rattle.gr_arena.specs.Arenas.{Stored, no_clause}
 use Rattle.gr_prop.specs.Bases.{BaseClause, base_clause, clauses_in}
 use Rattle.gr_prop.specs.BaseChanges.{with_decision}
 use Rattle.std.specs.Ordering.{nat_cmp}
-use Rattle.gr_prop.specs.Watching.{Store, lits_at, count_in, watched, occurs, IsBlocked, Guards, AreAt, AreBroken, IsReady, IsIndexed, IsKeptBase}
+use Rattle.gr_prop.specs.Watching.{Store, lits_at, count_in, watched, longer, paired, IsOther, ArePaired, occurs, IsBlocked, Guards, AreAt, AreBroken, IsReady, IsIndexed, IsKeptBase}
 use Rattle.gr_prop.proofs.TrailSets.{open-false}
 use Rattle.gr_prop.proofs.Kept.{guarded-more}
 use Rattle.gr_prop.proofs.Stores.{get-clauses_in, same-map}
@@ -63,7 +63,7 @@ empty-list vars l = same-everywhere (2 * vars) (code_of l) []
 pub kept-empty : (vars : ℕ) → IsKeptBase finite.empty (record { vars = vars; depth = 0; assigned = [] })
     (record { vars = vars; lists = replicate (2 * vars) [] }) finite.empty 0 [] false None
 kept-empty vars = kept-open _ _ _ _ _ _ _ _ record {
-  watching = λ q l. ap (count_in q) (empty-list vars l) ∙ sym (ap (λ c. watched c l) (empty-lits q));
+  watching = λ q l. ap (count_in q) (empty-list vars l) ∙ sym (ap (λ c. watched (longer c) l) (empty-lits q));
   blocked = λ l. subst (All (IsBlocked finite.empty)) (sym (empty-list vars l)) (All-nil (IsBlocked finite.empty));
   distinct = λ q index. subst (λ c. occurs c index ≤ 1) (sym (empty-lits q)) (omega arith);
   known = λ q. subst (All (λ (l : Literal). l.index < vars)) (sym (empty-lits q)) (All-nil _);
@@ -85,6 +85,15 @@ kept-empty vars = kept-open _ _ _ _ _ _ _ _ record {
       kept = λ p id h. let f = get-clauses_in finite.empty p.0 ∙ ap (option_map base_clause)
           (finite.get-empty {X = Stored} nat_cmp p.0) in let g = h.1 in absurd (cc);
     }
+
+pub paired-empty : (vars : ℕ) → ArePaired finite.empty vars
+    (record { vars = vars; lists = replicate (2 * vars) [] })
+paired-empty vars = record {
+  watching = λ q l. ap (count_in q) (empty-list vars l) ∙ sym (ap (λ c. watched (paired c) l) (empty-lits q));
+  others = λ l. subst (All (IsOther finite.empty l)) (sym (empty-list vars l)) (All-nil (IsOther finite.empty l));
+  vars' = refl;
+  even = length-replicate (2 * vars) [];
+}
 
 pub empty-clauses : clauses_in finite.empty ≡ finite.empty
 empty-clauses = same-map _ _ (λ q. get-clauses_in finite.empty q ∙ ap (option_map base_clause)

@@ -9,6 +9,8 @@ mod Moves
 mod Rounds
 pub mod Facts
 mod Endings
+mod PairLists
+mod Passing
 mod Stepping
 mod Keeping
 mod Finding
@@ -16,13 +18,16 @@ mod IdEntries
 mod Deciding
 mod Arranging
 mod Forcing
+mod Attaching
 mod Adding
 mod Arrivals
+mod Detaching
 mod Removing
 mod Settling
 mod IdOrder
 mod Mapped
 mod MovedClauses
+mod MovedPairs
 mod Compacted
 mod MovedLists
 pub mod Founded

@@ -1,5 +1,5 @@
 -- a watch moves to another literal
-use Rattle.std.proofs.Common.{◌≡◌, ◌≢◌, ◌⊎◌, ℕ, ◌+◌, ◌<◌, Bool, true, false, All, List, [], ◌∷◌, ◌++◌, IsSome, get_or, length, refl, sym, ap, ◌∙◌, subst, inl, inr, arith, nat_eq, if◌then◌else◌}
+use Rattle.std.proofs.Common.{◌≡◌, ◌≢◌, ◌⊎◌, ℕ, ◌+◌, ◌<◌, ◌≤◌, Bool, true, false, All, List, [], ◌∷◌, ◌++◌, IsSome, get_or, length, refl, sym, ap, ◌∙◌, subst, inl, inr, arith, nat_eq, if◌then◌else◌}
 use Rattle.std.proofs.lemmas.Bool.Decides.{nat_tests}
 use Rattle.std.proofs.lemmas.List.Elements.{All-push}
 use Rattle.std.specs.List.{swap_remove}
@@ -14,13 +14,13 @@ use Rattle.gr_logic.proofs.SameLiteral.{members-first}
 use Rattle.gr_trail.specs.Trails.{Assigned, TrailState, true_in}
 use Rattle.gr_watch.specs.declared.lists.Watch.{Watch}
 use Rattle.gr_watch.specs.WatchLists.{WatchLists, list_of, with_list}
-use Rattle.gr_prop.specs.Watching.{Store, lits_at, bit, count_in, watched, IsWatching, IsBlocked, AreBlocked, AreKnown, IsKept, IsGuarded, IsSound, is_in}
+use Rattle.gr_prop.specs.Watching.{Store, lits_at, bit, count_in, watched, is_pair, longer, IsWatching, IsBlocked, AreBlocked, AreKnown, IsKept, IsGuarded, IsSound}
 use Rattle.gr_prop.specs.Visits.{IsMoved}
 use Rattle.gr_prop.specs.Walking.{IsWalking, AreVisited, IsProgress}
 use Rattle.gr_prop.specs.Additions.{attached}
 use Rattle.gr_prop.proofs.Kept.{kept-order, kept-none}
-use Rattle.gr_prop.proofs.Stores.{by_place, lits-other, there-other, reordered-clauses, reordered-distinct, reordered-known}
-use Rattle.gr_prop.proofs.Counts.{code-low, list-same, list-other, by_list, not-same, count-removed, front-removed, blocked-removed, blocked-reordered, attached-count, attached-length}
+use Rattle.gr_prop.proofs.Stores.{by_place, lits-other, lits-permuted, there-other, reordered-clauses, reordered-distinct, reordered-known}
+use Rattle.gr_prop.proofs.Counts.{code-low, count-here, pair-permuted, longer-is, list-same, list-other, by_list, not-same, count-removed, front-removed, blocked-removed, blocked-reordered, attached-count, attached-length}
 use Rattle.gr_prop.proofs.WalkSteps.{has-list, list-blocked, visited-on, visited-front, grown-itself}
 
 -- the lists after the move
@@ -112,29 +112,40 @@ module _ (k n : Store) (t u : TrailState) (ws vs : WatchLists) (list : List Watc
   long : length (attached ws v.next new).lists ≡ length ws.lists
   long = attached-length ws v.next new
 
+  -- a clause that is walked has more than two literals
+  was-long : (i : ℕ) (w : Watch) → i < length list → w ≡ get_or list i w → w.place.0 ≡ place → is_pair
+      (lits_at k place) ≡ false
+  was-long i w low at here = longer-is (lits_at k place) gone
+      (subst (λ m. 1 ≤ m) (ap (count_in place) (sym (list-same ws gone list gone-room)) ∙ walk.watching place gone)
+      (subst (λ p. 1 ≤ count_in p list) here (count-here list i w low at)))
+
+  still : {c : List Literal} → is_pair c ≡ false → longer c ≡ c
+  still {c} e = ap (λ b. if b then [] else c) e
+
   -- watches stay in step
-  moved-watching : (i : ℕ) (w : Watch) → i < length list → w ≡ get_or list i w → w.place.0 ≡ place → IsWatching n
-      (after_move ws list gone v.next i w new)
+  moved-watching : (i : ℕ) (w : Watch) → i < length list → w ≡ get_or list i w → w.place.0 ≡ place → IsWatching longer
+      n (after_move ws list gone v.next i w new)
   moved-watching i w low at here =
       by_place (λ q. (l : Literal) → count_in q (list_of (after_move ws list gone v.next i w new) l) ≡ watched
-      (lits_at n q) l) place
+      (longer (lits_at n q)) l) place
       (λ l.
       let e = moved-count ws list gone v.next i w new place l gone-room next-room next-apart low at in
       let one : nat_eq w.place.0 place ≡ true = grind (arith, nat_tests) in
       let two : nat_eq place place ≡ true = grind (arith, nat_tests) in
       let f = rw (one, two) at e in
       let g : count_in place (list_of (with_list ws gone list) l) ≡ bit (same_literal l v.first) + bit
-      (same_literal l gone) = walk.watching place l ∙ old-watched l in
-      let h : watched (lits_at n place) l ≡ bit (same_literal l v.first) + bit (same_literal l v.next) = ap
-      (λ c. watched c l) v.is in
+      (same_literal l gone) = walk.watching place l ∙ ap (λ c. watched c l) (still (was-long i w low at here)) ∙
+      old-watched l in
+      let h : watched (longer (lits_at n place)) l ≡ bit (same_literal l v.first) + bit (same_literal l v.next) = ap
+      (λ c. watched c l) (still (sym (pair-permuted _ _ v.reordered.lits) ∙ was-long i w low at here) ∙ v.is) in
       end-here _ _ _ (same_literal l gone) (same_literal l v.next) (same_literal l v.first) f g h)
       (λ q apart l.
       let e = moved-count ws list gone v.next i w new q l gone-room next-room next-apart low at in
       let one : nat_eq w.place.0 q ≡ false = grind (arith, nat_tests) in
       let two : nat_eq place q ≡ false = grind (arith, nat_tests) in
       let f = rw (one, two) at e in
-      let g : count_in q (list_of (with_list ws gone list) l) ≡ watched (lits_at n q) l = walk.watching q l ∙ ap
-      (λ c. watched c l) (sym (lits-other k n place v.reordered q apart)) in
+      let g : count_in q (list_of (with_list ws gone list) l) ≡ watched (longer (lits_at n q)) l = walk.watching q l
+      ∙ ap (λ c. watched (longer c) l) (sym (lits-other k n place v.reordered q apart)) in
       end-apart _ _ _ (same_literal l gone) (same_literal l v.next) f g)
 
   first-in : IsBlocked n new
@@ -202,12 +213,13 @@ module _ (k n : Store) (t u : TrailState) (ws vs : WatchLists) (list : List Watc
   moved-progress =
       subst (IsProgress k n t) (sym v.trail) record {
         clauses = reordered-clauses k n place v.reordered;
+        orders = lits-permuted k n place v.reordered;
+        there = there-other k n place v.reordered;
         grown = grown-itself t;
-        guards = λ done within all.
-            by_place (λ q. IsSome (finite.get n q) → is_in [] q ≡ false → IsGuarded t.assigned done (lits_at n q)) place
-            (λ _ free. moved-guarded done within (all place v.reordered.was free))
-            (λ q apart there free. subst (IsGuarded t.assigned done) (sym (lits-other k n place v.reordered q apart))
-            (all q (there-other k n place v.reordered q there) free));
+        guards = λ done within q there.
+            by_place (λ q. IsGuarded t.assigned done (lits_at k q) → IsGuarded t.assigned done (lits_at n q)) place
+            (moved-guarded done within)
+            (λ q apart. subst (IsGuarded t.assigned done) (sym (lits-other k n place v.reordered q apart))) q;
       }
 
   pub moved-visited : (i : ℕ) (w : Watch) → i < length list → AreVisited k t.assigned list i → AreVisited n

@@ -1,5 +1,5 @@
 -- a clause leaves
-use Rattle.std.proofs.Common.{◌≡◌, ◌≢◌, ◌⊎◌, ℕ, ◌+◌, ◌-◌, ◌<◌, ◌≤◌, Bool, true, false, not, ◌&&◌, ◌||◌, All, List, [], ◌∷◌, Option, Some, None, IsSome, get_or, set, take, length, refl, sym, ap, ◌∙◌, subst, inl, inr, arith, nat_eq, suc, if◌then◌else◌, cond}
+use Rattle.std.proofs.Common.{◌≡◌, ◌≢◌, ◌⊎◌, ℕ, ◌+◌, ◌-◌, ◌*◌, ◌<◌, ◌≤◌, Bool, true, false, not, ◌&&◌, ◌||◌, All, List, [], ◌∷◌, Option, Some, None, IsSome, get_or, set, take, length, refl, sym, ap, ◌∙◌, subst, inl, inr, arith, nat_eq, suc, if◌then◌else◌, cond}
 use Rattle.std.proofs.lemmas.Bool.Decides.{nat_tests}
 use Rattle.std.proofs.lemmas.List.{length-set, get_or_default}
 use Rattle.std.proofs.lemmas.List.Elements.{All-head, All-tail, All-nil}
@@ -20,100 +20,12 @@ use Rattle.gr_trail.specs.Trails.{Assigned, TrailState}
 use Rattle.gr_watch.specs.declared.lists.Watch.{Watch}
 use Rattle.gr_watch.specs.WatchLists.{WatchLists, list_of, no_watch, taken_out, is_at, first_at}
 use Rattle.gr_prop.specs.Bases.{BaseClause, base_clause, clauses_in, family, HasIdAt}
-use Rattle.gr_prop.specs.Watching.{Store, stored_at, lits_at, bit, occurs, count_in, watched, IsBlocked, AreBlocked, IsGuarded, AllFalse, IsReady, IsIndexed, IsKeptBase, is_in}
+use Rattle.gr_prop.specs.Watching.{Store, stored_at, lits_at, bit, occurs, count_in, watched, is_pair, longer, paired, IsOther, ArePaired, IsWatching, IsBlocked, AreBlocked, IsGuarded, AllFalse, IsReady, IsIndexed, IsKeptBase, is_in}
 use Rattle.gr_prop.specs.Additions.{detached, unwatching, IsWatchedByTwo}
 use Rattle.gr_prop.proofs.Closed.{HaveNoReason, founded-with}
 use Rattle.gr_prop.proofs.Stores.{by_place, get-remove-same, get-remove-other, lits-remove, lits-remove-other, clauses-remove, family-at, get-clauses_in, some-is}
-use Rattle.gr_prop.proofs.Counts.{code-low, count-here, list-same, list-other, by_list, not-same}
-use Rattle.gr_prop.proofs.Forcing.{none-apart}
-
--- ---- the first watch of a place
-count-any : (place : Place) (list : List Watch) → 1 ≤ count_in place.0 list → list_any (is_at place) list ≡ true
-count-any place [] h = absurd (omega arith)
-count-any place (w ∷ ws) h =
-    let e : count_in place.0 (w ∷ ws) ≡ bit (nat_eq w.place.0 place.0) + count_in place.0 ws = sum_by-cons
-    (λ (x : Watch). bit (nat_eq x.place.0 place.0)) w ws in
-    elim (nat_eq w.place.0 place.0) as (λ b. nat_eq w.place.0 place.0 ≡ b → (b || list_any (is_at place) ws) ≡ true) [
-      | true ↦ λ _. refl
-      | false ↦ λ apart. let f : bit (nat_eq w.place.0 place.0) ≡ 0 = ap bit apart in count-any place ws (omega arith)
-    ] refl
-
--- it is there, and of the place
-found-first : (place : Place) (list : List Watch) (d : Watch) → list_any (is_at place) list ≡ true
-    → (first_at place list < length list) × ((get_or list (first_at place list) d).place.0 ≡ place.0)
-found-first place [] d h = absurd (cc)
-found-first place (w ∷ ws) d h =
-    elim (is_at place w) as (λ b. is_at place w ≡ b → (b || list_any (is_at place) ws) ≡ true
-    → (cond (not b) (1 + first_at place ws) 0 < length (w ∷ ws)) ×
-    ((get_or (w ∷ ws) (cond (not b) (1 + first_at place ws) 0) d).place.0 ≡ place.0)) [
-      | true ↦ λ same _. (omega arith, grind (arith, nat_tests))
-      | false ↦ λ _ later.
-          let rest = found-first place ws d later in
-          let low = rest.0 in
-          let e : 1 + first_at place ws ≡ suc (first_at place ws) = omega arith in
-          (omega arith, ap (λ m. (get_or (w ∷ ws) m d).place.0) e ∙ rest.1)
-    ] refl h
-
-swap_remove-default : {X : Type 0} (xs : List X) (i : ℕ) (d e : X) → i < length xs → swap_remove xs i d ≡ swap_remove
-    xs i e
-swap_remove-default xs i d e low = ap (λ z. take (length xs - 1) (set xs i z))
-    (get_or_default xs (length xs - 1) d e (omega arith))
-
--- ---- a watch is taken out
-detached-length : (ws : WatchLists) (a : Literal) (place : Place) → length (detached ws a place).lists ≡ length ws.lists
-detached-length ws a place = length-set ws.lists (code_of a) _
-
-detached-count : (ws : WatchLists) (a : Literal) (place : Place) (q : ℕ) (l : Literal) → code_of a < length ws.lists
-    → list_any (is_at place) (list_of ws a) ≡ true
-    → count_in q (list_of (detached ws a place) l) + (if same_literal l a then bit (nat_eq place.0 q) else 0) ≡
-    count_in q (list_of ws l)
-detached-count ws a place q l room there =
-    elim (same_literal l a) as (λ b. same_literal l a ≡ b
-    → count_in q (list_of (detached ws a place) l) + (if b then bit (nat_eq place.0 q) else 0) ≡ count_in q
-    (list_of ws l)) [
-      | true ↦ λ same.
-          let is : l ≡ a = same_literal-is l a same in
-          let f = found-first place (list_of ws a) no_watch there in
-          let e : count_in q (list_of (detached ws a place) l) ≡ count_in q
-          (taken_out (list_of ws a) (first_at place (list_of ws a))) =
-          ap (λ z. count_in q (list_of (detached ws a place) z)) is ∙ ap (count_in q)
-          (list-same ws a (taken_out (list_of ws a) (first_at place (list_of ws a))) room) in
-          let g = sum_by-swap_remove (λ (x : Watch). bit (nat_eq x.place.0 q)) (list_of ws a)
-          (first_at place (list_of ws a)) no_watch f.0 in
-          let h : bit (nat_eq (get_or (list_of ws a) (first_at place (list_of ws a)) no_watch).place.0 q) ≡ bit
-          (nat_eq place.0 q) = ap (λ n. bit (nat_eq n q)) f.1 in
-          let j : count_in q (list_of ws l) ≡ count_in q (list_of ws a) = ap (λ z. count_in q (list_of ws z)) is in
-          omega arith
-      | false ↦ λ apart.
-          let e : count_in q (list_of (detached ws a place) l) ≡ count_in q (list_of ws l) = ap (count_in q)
-          (list-other ws a (taken_out (list_of ws a) (first_at place (list_of ws a))) l (not-same l a apart)) in
-          omega arith
-    ] refl
-
-detached-blocked : (k : Store) (ws : WatchLists) (a : Literal) (place : Place) → code_of a < length ws.lists →
-    list_any (is_at place) (list_of ws a) ≡ true
-    → AreBlocked k ws → AreBlocked k (detached ws a place)
-detached-blocked k ws a place room there all =
-    by_list (λ _ x. All (IsBlocked k) x) ws a (taken_out (list_of ws a) (first_at place (list_of ws a))) room
-    (let list : List Watch = list_of ws a in
-    let i : ℕ = first_at place list in
-    let f = found-first place list no_watch there in
-    let w : Watch = get_or list i no_watch in
-    let at : w ≡ get_or list i w = get_or_default list i no_watch w f.0 in
-    subst (All (IsBlocked k)) (swap_remove-default list i w no_watch f.0)
-    (All-tail (IsBlocked k) w (swap_remove list i w) (All-permutation (IsBlocked k) list (w ∷ swap_remove list i w)
-    (IsPermutation-swap_remove list i w f.0 at) (all a))))
-    (λ q apart. all q)
-
-none-left : (f m n : ℕ) (a b : Bool) → f + (if b then 1 else 0) ≡ m → m + (if a then 1 else 0) ≡ n → n ≡ bit a + bit
-    b → f ≡ 0
-none-left f m n a b d e g = omega arith
-
-same-left : (f m n : ℕ) (a b : Bool) → f + (if b then 0 else 0) ≡ m → m + (if a then 0 else 0) ≡ n → f ≡ n
-same-left f m n true true d e = omega arith
-same-left f m n true false d e = omega arith
-same-left f m n false true d e = omega arith
-same-left f m n false false d e = omega arith
+use Rattle.gr_prop.proofs.Counts.{code-low, count-here, list-same, list-other, longer-all, longer-own, paired-all, paired-own}
+use Rattle.gr_prop.proofs.Detaching.{AreLeft, watched-twice, lists-left}
 
 -- ---- places that leave a list
 none-in : (places : List Place) → ((q : ℕ) → is_in places q ≡ false) → places ≡ []
@@ -143,86 +55,69 @@ module _ (k : Store) (t : TrailState) (ws : WatchLists) (places : finite.FinMap 
   abbrev c : List Literal
   c = lits_at k place.0
 
-  room : (l : Literal) → l.index < t.vars → code_of l < length ws.lists
-  room l low = code-low l t.vars (length ws.lists) kept.ready.even low
+  longer-known : All (λ (l : Literal). l.index < t.vars) (longer c)
+  longer-known = longer-all (λ (l : Literal). l.index < t.vars) c (kept.ready.known place.0)
 
-  first-there : (w o : Literal) (rest : List Literal) → c ≡ w ∷ o ∷ rest → list_any (is_at place) (list_of ws w) ≡ true
-  first-there w o rest is = count-any place (list_of ws w)
-      (let e : count_in place.0 (list_of ws w) ≡ bit (same_literal w w) + bit (same_literal w o) =
-      kept.ready.watching place.0 w ∙ ap (λ z. watched z w) is in
-      let f : bit (same_literal w w) ≡ 1 = ap bit (same_literal-itself w) in omega arith)
+  longer-distinct : (w o : Literal) (rest : List Literal) → longer c ≡ w ∷ o ∷ rest → occurs (w ∷ o ∷ rest) o.index ≤ 1
+  longer-distinct w o rest is = subst (λ z. occurs z o.index ≤ 1) (longer-own c (o ∷ rest) w is)
+      (kept.ready.distinct place.0 o.index)
 
-  second-there : (w o : Literal) (rest : List Literal) → c ≡ w ∷ o ∷ rest → list_any (is_at place)
-      (list_of (detached ws w place) o) ≡ true
-  second-there w o rest is =
-      let low : w.index < t.vars = subst (All (λ (l : Literal). l.index < t.vars)) is (kept.ready.known place.0) 0 w
-      (omega arith) in
-      let apart : same_literal o w ≡ false = none-apart w o rest
-      (subst (λ z. occurs z o.index ≤ 1) is (kept.ready.distinct place.0 o.index)) in
-      count-any place (list_of (detached ws w place) o)
-      (let e : count_in place.0 (list_of ws o) ≡ bit (same_literal o w) + bit (same_literal o o) =
-      kept.ready.watching place.0 o ∙ ap (λ z. watched z o) is in
-      let f : bit (same_literal o o) ≡ 1 = ap bit (same_literal-itself o) in
-      let g = rw apart at (detached-count ws w place place.0 o (room w low) (first-there w o rest is)) in
-      omega arith)
+  -- the lists without the clause
+  pub watched-by-two : IsWatchedByTwo ws place (longer c)
+  watched-by-two = watched-twice longer k ws t.vars place kept.ready.watching kept.ready.even longer-known
+      longer-distinct (longer c) refl
 
-  pub watched-by-two : IsWatchedByTwo ws place c
-  watched-by-two = go c refl
-    where
-      go : (e : List Literal) → c ≡ e → IsWatchedByTwo ws place e
-      go [] is = tt
-      go (w ∷ []) is = tt
-      go (w ∷ o ∷ rest) is = (first-there w o rest is, second-there w o rest is)
-
-  lists-after : (e : List Literal) → c ≡ e
-      → ((l : Literal) → count_in place.0 (list_of (unwatching ws place e) l) ≡ 0)
-      × ((q : ℕ) → q ≢ place.0 → (l : Literal) → count_in q (list_of (unwatching ws place e) l) ≡ count_in q
-      (list_of ws l))
-      × AreBlocked k (unwatching ws place e)
-      × (length (unwatching ws place e).lists ≡ length ws.lists) × ((unwatching ws place e).vars ≡ ws.vars)
-  lists-after [] is = (
-    (λ l. kept.ready.watching place.0 l ∙ ap (λ z. watched z l) is),
-    (λ q apart l. refl),
-    kept.ready.blocked,
-    refl,
-    refl,
-  )
-  lists-after (w ∷ []) is = (
-    (λ l. kept.ready.watching place.0 l ∙ ap (λ z. watched z l) is),
-    (λ q apart l. refl),
-    kept.ready.blocked,
-    refl,
-    refl,
-  )
-  lists-after (w ∷ o ∷ rest) is =
-      let low-w : w.index < t.vars = subst (All (λ (l : Literal). l.index < t.vars)) is (kept.ready.known place.0) 0
-      w (omega arith) in
-      let low-o : o.index < t.vars = subst (All (λ (l : Literal). l.index < t.vars)) is (kept.ready.known place.0) 1
-      o (omega arith) in
-      let room-o : code_of o < length (detached ws w place).lists = subst (λ m. code_of o < m)
-      (sym (detached-length ws w place)) (room o low-o) in
-      let one = first-there w o rest is in
-      let two = second-there w o rest is in
-      let here : nat_eq place.0 place.0 ≡ true = grind (arith, nat_tests) in (
-        (λ l. none-left _ _ _ (same_literal l w) (same_literal l o)
-            (rw here at (detached-count (detached ws w place) o place place.0 l room-o two))
-            (rw here at (detached-count ws w place place.0 l (room w low-w) one))
-            (kept.ready.watching place.0 l ∙ ap (λ z. watched z l) is)),
-        (λ q apart l.
-            let other : nat_eq place.0 q ≡ false = grind (arith, nat_tests) in
-            same-left _ _ _ (same_literal l w) (same_literal l o)
-            (rw other at (detached-count (detached ws w place) o place q l room-o two))
-            (rw other at (detached-count ws w place q l (room w low-w) one))),
-        detached-blocked k (detached ws w place) o place room-o two
-            (detached-blocked k ws w place (room w low-w) one kept.ready.blocked),
-        detached-length (detached ws w place) o place ∙ detached-length ws w place,
-        refl,
-      )
+  abbrev left-lists : AreLeft longer k ws place (λ _. IsBlocked k) (unwatching ws place (longer c))
+  left-lists = lists-left longer k ws t.vars place kept.ready.watching kept.ready.even longer-known longer-distinct
+      (λ _. IsBlocked k) kept.ready.blocked (longer c) refl
 
   gone : (q : ℕ) → IsSome (finite.get n q) → q ≢ place.0
   gone q h e = let f : finite.get n q ≡ None = ap (finite.get n) e ∙ get-remove-same k place.0 in cc
 
-  module _ (vs : WatchLists) (lists : vs ≡ unwatching ws place c) (spots : finite.FinMap _ Place)
+  -- the lists of the clauses of two literals without the clause
+  module _ (ps : WatchLists) (p : ArePaired k t.vars ps) where
+    paired-known : All (λ (l : Literal). l.index < t.vars) (paired c)
+    paired-known = paired-all (λ (l : Literal). l.index < t.vars) c (kept.ready.known place.0)
+
+    paired-distinct : (w o : Literal) (rest : List Literal) → paired c ≡ w ∷ o ∷ rest → occurs (w ∷ o ∷ rest)
+        o.index ≤ 1
+    paired-distinct w o rest is = subst (λ z. occurs z o.index ≤ 1) (paired-own c (o ∷ rest) w is).0
+        (kept.ready.distinct place.0 o.index)
+
+    pub paired-by-two : IsWatchedByTwo ps place (paired c)
+    paired-by-two = watched-twice paired k ps t.vars place p.watching p.even paired-known paired-distinct
+        (paired c) refl
+
+    pub paired-removed : (qs : WatchLists) → qs ≡ unwatching ps place (paired c) → ArePaired n t.vars qs
+    paired-removed qs is =
+        let left : AreLeft paired k ps place (IsOther k) (unwatching ps place (paired c)) =
+        lists-left paired k ps t.vars place p.watching p.even paired-known paired-distinct (IsOther k) p.others
+        (paired c) refl in
+        subst (ArePaired n t.vars) (sym is) record {
+          watching = by_place (λ q. (l : Literal) → count_in q (list_of (unwatching ps place (paired c)) l)
+              ≡ watched (paired (lits_at n q)) l) place.0
+              (λ l. left.none l ∙ sym (ap (λ z. watched (paired z) l) (lits-remove k place.0)))
+              (λ q apart l. left.same q apart l ∙ p.watching q l ∙ sym
+              (ap (λ z. watched (paired z) l) (lits-remove-other k place.0 q apart)));
+          others = λ l i d low.
+              let list = list_of (unwatching ps place (paired c)) l in
+              let w : Watch = get_or list i d in
+              let some : 1 ≤ count_in w.place.0 list = count-here list i w low (get_or_default list i d w low) in
+              let apart : w.place.0 ≢ place.0 = λ e. let none = left.none l in
+              let more : 1 ≤ count_in place.0 list = subst (λ m. 1 ≤ count_in m list) e some in omega arith in
+              let same : lits_at n w.place.0 ≡ lits_at k w.place.0 = lits-remove-other k place.0 w.place.0 apart in
+              let h : IsOther k l w = left.all l i d low in
+              record {
+                two = ap is_pair same ∙ h.two;
+                own = ap (λ z. members z l) same ∙ h.own;
+                other = ap (λ z. members z w.blocker) same ∙ h.other;
+                apart = h.apart;
+              };
+          vars' = left.vars ∙ p.vars';
+          even = left.even ∙ p.even;
+        }
+
+  module _ (vs : WatchLists) (lists : vs ≡ unwatching ws place (longer c)) (spots : finite.FinMap _ Place)
       (index : spots ≡ finite.remove places (stored_at k place.0).id)
       (left : List Place) (forgotten : (q : ℕ) → is_in left q ≡ (is_in broken q && not (nat_eq place.0 q))) where
     none-broken-left : broken ≡ [] → left ≡ []
@@ -245,25 +140,25 @@ module _ (k : Store) (t : TrailState) (ws : WatchLists) (places : finite.FinMap 
         keeps true = refl
         keeps false = refl
 
-    blocked-after : AreBlocked n (unwatching ws place c)
+    blocked-after : AreBlocked n (unwatching ws place (longer c))
     blocked-after l i d low =
-        let w : Watch = get_or (list_of (unwatching ws place c) l) i d in
-        let at : w ≡ get_or (list_of (unwatching ws place c) l) i w = get_or_default
-        (list_of (unwatching ws place c) l) i d w low in
-        let some : 1 ≤ count_in w.place.0 (list_of (unwatching ws place c) l) = count-here
-        (list_of (unwatching ws place c) l) i w low at in
-        let apart : w.place.0 ≢ place.0 = λ e. let none = (lists-after c refl).0 l in
-        let more : 1 ≤ count_in place.0 (list_of (unwatching ws place c) l) = subst
-        (λ m. 1 ≤ count_in m (list_of (unwatching ws place c) l)) e some in omega arith in
-        ap (λ z. members z w.blocker) (lits-remove-other k place.0 w.place.0 apart) ∙ (lists-after c refl).2 l i d low
+        let w : Watch = get_or (list_of (unwatching ws place (longer c)) l) i d in
+        let at : w ≡ get_or (list_of (unwatching ws place (longer c)) l) i w = get_or_default
+        (list_of (unwatching ws place (longer c)) l) i d w low in
+        let some : 1 ≤ count_in w.place.0 (list_of (unwatching ws place (longer c)) l) = count-here
+        (list_of (unwatching ws place (longer c)) l) i w low at in
+        let apart : w.place.0 ≢ place.0 = λ e. let none = left-lists.none l in
+        let more : 1 ≤ count_in place.0 (list_of (unwatching ws place (longer c)) l) = subst
+        (λ m. 1 ≤ count_in m (list_of (unwatching ws place (longer c)) l)) e some in omega arith in
+        ap (λ z. members z w.blocker) (lits-remove-other k place.0 w.place.0 apart) ∙ left-lists.all l i d low
 
-    ready-removed : IsReady n t (unwatching ws place c) head left
+    ready-removed : IsReady n t (unwatching ws place (longer c)) head left
     ready-removed = record {
-      watching = by_place (λ q. (l : Literal) → count_in q (list_of (unwatching ws place c) l) ≡ watched
-          (lits_at n q) l) place.0
-          (λ l. (lists-after c refl).0 l ∙ sym (ap (λ z. watched z l) (lits-remove k place.0)))
-          (λ q apart l. (lists-after c refl).1 q apart l ∙ kept.ready.watching q l ∙ sym
-          (ap (λ z. watched z l) (lits-remove-other k place.0 q apart)));
+      watching = by_place (λ q. (l : Literal) → count_in q (list_of (unwatching ws place (longer c)) l) ≡ watched
+          (longer (lits_at n q)) l) place.0
+          (λ l. left-lists.none l ∙ sym (ap (λ z. watched (longer z) l) (lits-remove k place.0)))
+          (λ q apart l. left-lists.same q apart l ∙ kept.ready.watching q l ∙ sym
+          (ap (λ z. watched (longer z) l) (lits-remove-other k place.0 q apart)));
       blocked = blocked-after;
       distinct = by_place (λ q. (index : ℕ) → occurs (lits_at n q) index ≤ 1) place.0
           (λ index. subst (λ z. occurs z index ≤ 1) (sym (lits-remove k place.0)) (omega arith))
@@ -274,8 +169,8 @@ module _ (k : Store) (t : TrailState) (ws : WatchLists) (places : finite.FinMap 
           (All-nil (λ (l : Literal). l.index < t.vars)))
           (λ q apart. subst (All (λ (l : Literal). l.index < t.vars)) (sym (lits-remove-other k place.0 q apart))
           (kept.ready.known q));
-      vars = (lists-after c refl).4 ∙ kept.ready.vars;
-      even = (lists-after c refl).3 ∙ kept.ready.even;
+      vars = left-lists.vars ∙ kept.ready.vars;
+      even = left-lists.even ∙ kept.ready.even;
       sound = record {
         founded = founded-with (family (clauses_in k)) (family (clauses_in n)) (λ p. p ≡ place) no_literals t.assigned
             (λ p e other is. family-at n p.0 ∙ ap (option_map (λ (x : Stored). members x.lits))

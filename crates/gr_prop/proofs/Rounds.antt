@@ -15,8 +15,9 @@ use Rattle.gr_watch.specs.declared.lists.Watch.{Watch}
 use Rattle.gr_watch.specs.WatchLists.{WatchLists, list_of, with_list}
 use Rattle.gr_prop.specs.Bases.{clauses_in, family, decisions, IsUnitClosure}
 use Rattle.gr_prop.specs.BaseChanges.{IsForcedAt, back_to}
-use Rattle.gr_prop.specs.Watching.{Store, lits_at, bit, count_in, watched, IsWatching, AreBlocked, IsGuarded, Guards, AreAt, AreBroken, IsReady, true_by}
+use Rattle.gr_prop.specs.Watching.{Store, lits_at, bit, count_in, watched, is_pair, longer, IsWatching, AreBlocked, IsGuarded, Guards, AreAt, AreBroken, IsReady, true_by}
 use Rattle.gr_prop.specs.Walking.{IsWalking, AreVisited, IsProgress}
+use Rattle.gr_prop.specs.Pairing.{ArePassed}
 use Rattle.gr_prop.proofs.TrailSets.{prefix-within, true-at, within-at, at-append, up_to-done, true_by-depth, decisions-up_to}
 use Rattle.gr_prop.proofs.Kept.{any-weaker, kept-next, guarded-closed, guarded-up_to}
 use Rattle.gr_prop.proofs.Closed.{closed-is}
@@ -39,7 +40,7 @@ round-begins k t ws vs list head x gone ready low at is a b =
     let known : x.lit.index < t.vars = subst (λ (y : Assigned). y.lit.index < t.vars) (sym at)
     (within-at t.vars t.assigned head x low ready.sound.within) in
     let now : IsWalking k t (with_list ws gone []) (list_of ws gone) gone = record {
-      watching = subst (IsWatching k) (sym (taken-back ws gone)) ready.watching;
+      watching = subst (IsWatching longer k) (sym (taken-back ws gone)) ready.watching;
       blocked = subst (AreBlocked k) (sym (taken-back ws gone)) ready.blocked;
       distinct = ready.distinct;
       known = ready.known;
@@ -53,7 +54,7 @@ round-begins k t ws vs list head x gone ready low at is a b =
     subst (λ v. IsWalking k t v list gone) (sym a) (subst (λ m. IsWalking k t (with_list ws gone []) m gone) (sym b)
     now)
 
-forced-at : (depth other : ℕ) (xs : List Assigned) → other ≡ depth → All (IsForcedAt depth) xs → AreAt other xs
+pub forced-at : (depth other : ℕ) (xs : List Assigned) → other ≡ depth → All (IsForcedAt depth) xs → AreAt other xs
 forced-at depth other [] e all = tt
 forced-at depth other (x ∷ xs) e all =
     let h : IsForcedAt depth x = All-head (IsForcedAt depth) x xs all in
@@ -94,8 +95,8 @@ round-ready k n t u ws vs list gone head ready progress walk =
       sound = walk.sound;
       within = let e = ap length progress.grown.assigned ∙ length-append t.assigned progress.grown.more in let f =
           ready.within in omega arith;
-      guards = subst (Guards n [] u.assigned) (sym front) (progress.guards (take head t.assigned)
-          (prefix-within t.assigned head) ready.guards);
+      guards = subst (Guards n [] u.assigned) (sym front) (λ q there free. progress.guards (take head t.assigned)
+          (prefix-within t.assigned head) q there (ready.guards q (progress.there q there) free));
       queue = subst (AreAt u.depth) (sym (ap (drop head) progress.grown.assigned ∙ drop-append-le head t.assigned
           progress.grown.more ready.within))
           (at-append u.depth (drop head t.assigned) progress.grown.more
@@ -105,7 +106,8 @@ round-ready k n t u ws vs list gone head ready progress walk =
     }
 
 -- a clause that has a true literal where it is watched is guarded one literal on
-guarded-next : (xs done : List Assigned) (x : Assigned) (depth : ℕ) (gone : Literal) (c : List Literal) → Climbs 0 xs
+pub guarded-next : (xs done : List Assigned) (x : Assigned) (depth : ℕ) (gone : Literal) (c : List Literal)
+    → Climbs 0 xs
     depth → x.level ≡ depth
     → gone ≡ negation x.lit → IsGuarded xs done c → (1 ≤ watched c gone → list_any (true_in xs) c ≡ true) → IsGuarded
     xs (done ++ x ∷ []) c
@@ -129,7 +131,7 @@ guarded-next xs done x depth gone (w ∷ o ∷ rest) climbs at is g met = (
     now e = any-weaker (true_in xs) (true_by xs x.level) (w ∷ o ∷ rest)
         (λ l h. subst (λ d. true_by xs d l ≡ true) (sym at) (true_by-depth 0 depth xs l climbs h)) e
 
-at-first : (depth : ℕ) (xs : List Assigned) (i : ℕ) (x : Assigned) → i < length xs → x ≡ get_or xs i x → AreAt depth
+pub at-first : (depth : ℕ) (xs : List Assigned) (i : ℕ) (x : Assigned) → i < length xs → x ≡ get_or xs i x → AreAt depth
     (drop i xs)
     → (x.level ≡ depth) × AreAt depth (drop (i + 1) xs)
 at-first depth xs i x low at all =
@@ -141,9 +143,9 @@ at-first depth xs i x low at all =
 pub round-next : (n : Store) (u : TrailState) (vs : WatchLists) (list : List Watch) (gone : Literal) (head : ℕ)
     (x : Assigned)
     → code_of gone < length vs.lists → head < length u.assigned → x ≡ get_or u.assigned head x → gone ≡ negation x.lit
-    → AreVisited n u.assigned list (length list) → IsReady n u (with_list vs gone list) head [] → IsReady n u
-    (with_list vs gone list) (head + 1) []
-round-next n u vs list gone head x room low at is visited ready =
+    → AreVisited n u.assigned list (length list) → ArePassed n u.assigned (take (head + 1) u.assigned)
+    → IsReady n u (with_list vs gone list) head [] → IsReady n u (with_list vs gone list) (head + 1) []
+round-next n u vs list gone head x room low at is visited passed ready =
     let first = at-first u.depth u.assigned head x low at ready.queue in
     let front : take (head + 1) u.assigned ≡ take head u.assigned ++ x ∷ [] = take_more u.assigned head x low ∙ ap
     (λ y. take head u.assigned ++ y ∷ []) (sym at) in
@@ -156,12 +158,21 @@ round-next n u vs list gone head x room low at is visited ready =
       even = ready.even;
       sound = ready.sound;
       within = omega arith;
-      guards = subst (Guards n [] u.assigned) (sym front) (λ place there free.
-          guarded-next u.assigned (take head u.assigned) x u.depth gone (lits_at n place) ready.sound.climbs first.0
-          is (ready.guards place there free)
-          (λ h. visited place (subst (λ l. 1 ≤ count_in place l) (sym (take_all (length list) list (omega arith)))
-          (subst (λ m. 1 ≤ m) (sym (ap (count_in place) (sym (list-same vs gone list room)) ∙ ready.watching place
-          gone)) h))));
+      guards = λ place there free. elim (is_pair (lits_at n place)) as (λ b. is_pair (lits_at n place) ≡ b
+          → IsGuarded u.assigned (take (head + 1) u.assigned) (lits_at n place)) [
+            | true ↦ λ pair. passed place there pair
+            | false ↦ λ long.
+                let still : longer (lits_at n place) ≡ lits_at n place =
+                ap (λ b. if b then [] else lits_at n place) long in
+                let counted : count_in place list ≡ watched (lits_at n place) gone =
+                ap (count_in place) (sym (list-same vs gone list room)) ∙ ready.watching place gone
+                ∙ ap (λ c. watched c gone) still in
+                subst (λ done. IsGuarded u.assigned done (lits_at n place)) (sym front)
+                (guarded-next u.assigned (take head u.assigned) x u.depth gone (lits_at n place)
+                ready.sound.climbs first.0 is (ready.guards place there free)
+                (λ h. visited place (subst (λ l. 1 ≤ count_in place l)
+                (sym (take_all (length list) list (omega arith))) (subst (λ m. 1 ≤ m) (sym counted) h))))
+          ] refl;
       queue = first.1;
       broken' = ready.broken';
     }
@@ -170,16 +181,16 @@ pub round-on : (k n : Store) (t u : TrailState) (ws vs put : WatchLists) (list :
     (head : ℕ) (x : Assigned)
     → IsReady k t ws head [] → head < length t.assigned → x ≡ get_or t.assigned head x → gone ≡ negation x.lit →
     IsProgress k n t u
-    → IsWalking n u vs list gone → put ≡ with_list vs gone list → AreVisited n u.assigned list (length list) →
-    IsReady n u put (head + 1) []
-round-on k n t u ws vs put list gone head x ready low at is progress walk e visited =
+    → IsWalking n u vs list gone → put ≡ with_list vs gone list → AreVisited n u.assigned list (length list)
+    → ArePassed n u.assigned (take (head + 1) u.assigned) → IsReady n u put (head + 1) []
+round-on k n t u ws vs put list gone head x ready low at is progress walk e visited passed =
     let more : length u.assigned ≡ length t.assigned + length progress.grown.more = ap length progress.grown.assigned
     ∙ length-append t.assigned progress.grown.more in
     let here : x ≡ get_or u.assigned head x = at ∙ sym (ap (λ s. get_or s head x) progress.grown.assigned ∙
     get_or_append_left t.assigned progress.grown.more x head low) in
     let room : code_of gone < length vs.lists = code-low gone u.vars (length vs.lists) walk.even walk.low in
     subst (λ m. IsReady n u m (head + 1) []) (sym e)
-    (round-next n u vs list gone head x room (omega arith) here is visited
+    (round-next n u vs list gone head x room (omega arith) here is visited passed
     (round-ready k n t u ws vs list gone head ready progress walk))
 
 pub round-stops : (k n : Store) (t u : TrailState) (ws vs put : WatchLists) (list : List Watch) (gone : Literal)

@@ -18,12 +18,12 @@ use Rattle.gr_trail.proofs.Levels.{climbs-le, climbs-with_reason}
 use Rattle.gr_watch.specs.WatchLists.{WatchLists}
 use Rattle.gr_prop.specs.Bases.{base_clause, clauses_in, family, IsFoundedBy, AreFounded, LacksId}
 use Rattle.gr_prop.specs.BaseChanges.{IsSettled}
-use Rattle.gr_prop.specs.Watching.{Store, lits_at, true_by, IsKept, IsGuarded, Guards, AreAt, AreWithin, AllFalse, IsSound, IsReady, IsIndexed, IsKeptBase}
+use Rattle.gr_prop.specs.Watching.{Store, lits_at, true_by, IsKept, IsGuarded, Guards, AreAt, AreWithin, AllFalse, IsSound, IsReady, IsIndexed, IsKeptBase, longer, paired, ArePaired, occurs}
 use Rattle.gr_prop.specs.Additions.{watching_too, StandsAs}
 use Rattle.gr_prop.specs.declared.additions.Standing.TheVariants.{Rests}
 use Rattle.gr_prop.proofs.Stores.{get-insert-same, lits-insert, reordered-itself, get-clauses_in, clauses-insert, family-there}
 use Rattle.gr_prop.proofs.Facts.{normal-distinct}
-use Rattle.gr_prop.proofs.Adding.{ready-rests}
+use Rattle.gr_prop.proofs.Adding.{paired-added, ready-rests}
 use Rattle.gr_prop.proofs.Arrivals.{indexed-insert}
 
 -- ---- what another reason leaves as it was
@@ -190,12 +190,22 @@ module _ (k : Store) (t : TrailState) (ws : WatchLists) (places : finite.FinMap 
   there : IsSome (finite.get n place.0)
   there = subst IsSome (sym (get-insert-same k place.0 s)) refl
 
+  distinct-unit : (index : ℕ) → occurs (l ∷ []) index ≤ 1
+  distinct-unit = normal-distinct (l ∷ []) ((λ q m. absurd (cc)), tt)
+
+  known-unit : All (λ (q : Literal). q.index < t.vars) (l ∷ [])
+  known-unit = All-cons (λ (q : Literal). q.index < t.vars) l [] known (All-nil (λ (q : Literal). q.index < t.vars))
+
   ready : IsReady n t ws head broken
-  ready = subst (λ c. IsReady n t (watching_too ws place c) head broken) (lits-insert k place.0 s)
-      (ready-rests k n t ws head broken place s kept.ready fresh (reordered-itself n place.0 there)
-      (normal-distinct (l ∷ []) ((λ q m. absurd (cc)), tt)) (All-cons (λ (q : Literal). q.index < t.vars) l [] known
-      (All-nil (λ (q : Literal). q.index < t.vars)))
-      (inl zero') (subst (λ c. StandsAs t.assigned c Rests) (sym (lits-insert k place.0 s)) holds))
+  ready = subst (λ c. IsReady n t (watching_too ws place (longer c)) head broken) (lits-insert k place.0 s)
+      (ready-rests k n t ws head broken place s kept.ready fresh (reordered-itself n place.0 there) distinct-unit
+      known-unit (inl zero') (subst (λ c. StandsAs t.assigned c Rests) (sym (lits-insert k place.0 s)) holds))
+
+  -- the lists of the clauses of two literals are as they were
+  pub paired-settled : (ps : WatchLists) → ArePaired k t.vars ps → ArePaired n t.vars ps
+  paired-settled ps p = subst (λ c. ArePaired n t.vars (watching_too ps place (paired c))) (lits-insert k place.0 s)
+      (paired-added k n t ws head broken place s kept.ready fresh (reordered-itself n place.0 there) distinct-unit
+      known-unit ps p)
 
   unit : family (clauses_in n) place.0 ≡ Some (members (l ∷ []))
   unit = family-there n place.0 there ∙ ap (λ c. Some (members c)) (lits-insert k place.0 s)

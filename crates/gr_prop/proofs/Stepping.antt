@@ -17,6 +17,7 @@ use Rattle.gr_prop.specs.Walking.{IsWalking, AreVisited, IsProgress}
 use Rattle.gr_prop.specs.declared.visits.Ending.{Ending}
 use Rattle.gr_prop.proofs.TrailSets.{true_in-more, true_in-last}
 use Rattle.gr_prop.proofs.WalkSteps.{list-blocked, turned-walking, renewed-walking, forced-walking, visited-next, blocked-any, visited-blocked, visited-on, visited-front, turned-progress, forced-progress, progress-on}
+use Rattle.gr_prop.proofs.Counts.{member-known}
 use Rattle.gr_prop.proofs.Moves.{moved-walking, moved-progress, moved-visited}
 
 length-removed : (list : List Watch) (i : ℕ) (w : Watch) → i < length list → i ≤ length (swap_remove list i w)
@@ -168,13 +169,3 @@ blockers-known k t ws list rest gone walk same =
     (All-weaker (IsBlocked k) (λ (w : Watch). w.blocker.index < t.vars)
     (λ w blocked. member-known (lits_at k w.place.0) w.blocker (walk.known w.place.0) blocked) list
     (list-blocked k t ws list gone walk))
-  where
-    member-known : (c : List Literal) (l : Literal) → All (λ (q : Literal). q.index < t.vars) c → members c l ≡ true
-        → l.index < t.vars
-    member-known [] l all m = absurd (cc)
-    member-known (x ∷ xs) l all m =
-        elim (same_literal l x) as (λ b. same_literal l x ≡ b → (b || members xs l) ≡ true → l.index < t.vars) [
-          | true ↦ λ is _. subst (λ (q : Literal). q.index < t.vars) (sym (same_literal-is l x is))
-              (all 0 x (omega arith))
-          | false ↦ λ _ rest. member-known xs l (All-tail (λ (q : Literal). q.index < t.vars) x xs all) rest
-        ] refl m

@@ -68,6 +68,14 @@ open-value xs l a b =
     ap (λ t. if t then Some true else (if true_in xs (negation l) then Some false else None)) a
     ∙ ap (λ t. if t then Some false else None) b
 
+pub true-value : (xs : List Assigned) (l : Literal) → value_in xs l ≡ Some true → true_in xs l ≡ true
+true-value xs l = go (true_in xs l) (true_in xs (negation l))
+  where
+    go : (a b : Bool) → (if a then Some true else (if b then Some false else None)) ≡ Some true → a ≡ true
+    go true b e = refl
+    go false true e = absurd (cc)
+    go false false e = absurd (cc)
+
 pub false-value : (xs : List Assigned) (l : Literal) → value_in xs l ≡ Some false → true_in xs (negation l) ≡ true
 false-value xs l e = go (true_in xs l) (true_in xs (negation l)) e
   where

@@ -3,6 +3,7 @@ use Rattle.std.proofs.Common.{◌≡◌, ◌⊎◌, ℕ, ◌+◌, ◌<◌, ◌�
 use Rattle.std.proofs.lemmas.Bool.Decides.{nat_tests}
 use Rattle.std.proofs.lemmas.List.{append-nil, append_assoc, get_or_default}
 use Rattle.std.proofs.lemmas.List.Elements.{All-set, All-append, All-nil, All-cons}
+use Rattle.std.proofs.lemmas.List.Sorted.{IsPermutation-refl, IsPermutation-trans}
 use Rattle.std.specs.List.{list_any}
 use Rattle.std.specs.List.Sorted.{IsPermutation}
 use Rattle.std.specs.FinMap as finite
@@ -16,14 +17,14 @@ use Rattle.gr_watch.specs.declared.lists.Watch.{Watch}
 use Rattle.gr_watch.specs.WatchLists.{WatchLists, list_of, with_list}
 use Rattle.gr_prop.specs.Bases.{clauses_in}
 use Rattle.gr_prop.specs.BaseChanges.{with_forced, IsForcedAt, IsGrown}
-use Rattle.gr_prop.specs.Watching.{Store, lits_at, bit, count_in, watched, IsBlocked, IsGuarded, Guards, IsSound, is_in}
+use Rattle.gr_prop.specs.Watching.{Store, lits_at, bit, count_in, watched, longer, IsBlocked, IsGuarded, IsSound}
 use Rattle.gr_prop.specs.Visits.{IsWatchedIn, IsReordered, IsTurned, OthersFalse}
 use Rattle.gr_prop.specs.Walking.{IsWalking, AreVisited, IsProgress}
 use Rattle.gr_prop.proofs.TrailSets.{true_in-more}
 use Rattle.gr_prop.proofs.Kept.{any-weaker, any-member, kept-order, guarded-more}
-use Rattle.gr_prop.proofs.Stores.{by_place, lits-other, there-other, reordered-clauses, reordered-distinct, reordered-known, reordered-any, family-there}
+use Rattle.gr_prop.proofs.Stores.{by_place, lits-other, lits-permuted, there-other, reordered-clauses, reordered-distinct, reordered-known, reordered-any, family-there}
 use Rattle.gr_prop.proofs.Sound.{sound-forced}
-use Rattle.gr_prop.proofs.Counts.{code-low, count-here, watched-in, there-in, list-same, list-other, by_list, count-more, count-set, blocked-reordered, turned-watching}
+use Rattle.gr_prop.proofs.Counts.{code-low, count-here, longer-in, there-in, list-same, list-other, by_list, count-more, count-set, blocked-reordered, turned-watching}
 
 module _ (k : Store) (t : TrailState) (ws : WatchLists) (list : List Watch) (gone : Literal)
     (walk : IsWalking k t ws list gone) where
@@ -37,7 +38,7 @@ module _ (k : Store) (t : TrailState) (ws : WatchLists) (list : List Watch) (gon
   pub walked-watched : (i : ℕ) (w : Watch) → i < length list → w ≡ get_or list i w → IsWatchedIn
       (lits_at k w.place.0) gone
   walked-watched i w low at =
-      watched-in _ gone (subst (λ n. 1 ≤ n) (ap (count_in w.place.0) (sym (list-same ws gone list has-list)) ∙
+      longer-in _ gone (subst (λ n. 1 ≤ n) (ap (count_in w.place.0) (sym (list-same ws gone list has-list)) ∙
       walk.watching w.place.0 gone) (count-here list i w low at))
 
   pub walked-there : (i : ℕ) (w : Watch) → i < length list → w ≡ get_or list i w → IsSome (finite.get k w.place.0)
@@ -62,7 +63,7 @@ module _ (k : Store) (t : TrailState) (ws : WatchLists) (list : List Watch) (gon
   pub renewed-walking : (i : ℕ) (w new : Watch) → i < length list → w ≡ get_or list i w → new.place ≡ w.place →
       IsBlocked k new → IsWalking k t ws (set list i new) gone
   renewed-walking i w new low at same blocked = record {
-    watching = λ q. by_list (λ l x. count_in q x ≡ watched (lits_at k q) l) ws gone (set list i new) has-list
+    watching = λ q. by_list (λ l x. count_in q x ≡ watched (longer (lits_at k q)) l) ws gone (set list i new) has-list
         (count-set q list i w new low at same ∙ ap (count_in q) (sym (list-same ws gone list has-list)) ∙
         walk.watching q gone)
         (λ l apart. ap (count_in q) (sym (list-other ws gone list l apart)) ∙ walk.watching q l);
@@ -165,11 +166,19 @@ grown-itself t = record {
 }
 
 pub progress-itself : (k : Store) (t : TrailState) → IsProgress k k t t
-progress-itself k t = record { clauses = refl; grown = grown-itself t; guards = λ done within all. all }
+progress-itself k t = record {
+  clauses = refl;
+  orders = λ q. IsPermutation-refl _;
+  there = λ q h. h;
+  grown = grown-itself t;
+  guards = λ done within q there g. g;
+}
 
 pub progress-on : (k m n : Store) (t s u : TrailState) → IsProgress k m t s → IsProgress m n s u → IsProgress k n t u
 progress-on k m n t s u one two = record {
   clauses = two.clauses ∙ one.clauses;
+  orders = λ q. IsPermutation-trans _ _ _ (one.orders q) (two.orders q);
+  there = λ q h. one.there q (two.there q h);
   grown = record {
     vars = two.grown.vars ∙ one.grown.vars;
     depth = two.grown.depth ∙ one.grown.depth;
@@ -179,10 +188,10 @@ progress-on k m n t s u one two = record {
     forced = All-append (IsForcedAt t.depth) one.grown.more two.grown.more one.grown.forced
         (subst (λ d. All (IsForcedAt d) two.grown.more) one.grown.depth two.grown.forced);
   };
-  guards = λ done within all. two.guards done
+  guards = λ done within q there g. two.guards done
       (λ q e. subst (λ x. true_in x q ≡ true) (sym one.grown.assigned)
-      (true_in-more t.assigned one.grown.more q (within q e)))
-      (one.guards done within all);
+      (true_in-more t.assigned one.grown.more q (within q e))) q there
+      (one.guards done within q (two.there q there) g);
 }
 
 -- a turned clause is guarded as before
@@ -199,25 +208,29 @@ turned-guarded xs done c d gone p t g = subst (IsGuarded xs done) (sym t.is) (ba
         (kept-order xs done t.first _ _ q h.1, kept-order xs done gone _ _ q h.0)
 
 pub turned-guards : (k n : Store) (xs done : List Assigned) (gone : Literal) (place : ℕ) → IsReordered k n place
-    → IsTurned (lits_at k place) (lits_at n place) gone → Guards k [] xs done → Guards n [] xs done
-turned-guards k n xs done gone place r turned all =
-    by_place (λ q. IsSome (finite.get n q) → is_in [] q ≡ false → IsGuarded xs done (lits_at n q)) place
-    (λ _ free. turned-guarded xs done _ _ gone r.lits turned (all place r.was free))
-    (λ q apart there free. subst (IsGuarded xs done) (sym (lits-other k n place r q apart))
-    (all q (there-other k n place r q there) free))
+    → IsTurned (lits_at k place) (lits_at n place) gone → (q : ℕ) → IsGuarded xs done (lits_at k q)
+    → IsGuarded xs done (lits_at n q)
+turned-guards k n xs done gone place r turned =
+    by_place (λ q. IsGuarded xs done (lits_at k q) → IsGuarded xs done (lits_at n q)) place
+    (turned-guarded xs done _ _ gone r.lits turned)
+    (λ q apart. subst (IsGuarded xs done) (sym (lits-other k n place r q apart)))
 
 pub turned-progress : (k n : Store) (t : TrailState) (gone : Literal) (place : ℕ) → IsReordered k n place
     → IsTurned (lits_at k place) (lits_at n place) gone → IsProgress k n t t
 turned-progress k n t gone place r turned = record {
   clauses = reordered-clauses k n place r;
+  orders = lits-permuted k n place r;
+  there = there-other k n place r;
   grown = grown-itself t;
-  guards = λ done within all. turned-guards k n t.assigned done gone place r turned all;
+  guards = λ done within q there. turned-guards k n t.assigned done gone place r turned q;
 }
 
 pub forced-progress : (k : Store) (t : TrailState) (l : Literal) (place : Place) → IsProgress k k t
     (with_forced t l place)
 forced-progress k t l place = record {
   clauses = refl;
+  orders = λ q. IsPermutation-refl _;
+  there = λ q h. h;
   grown = record {
     vars = refl;
     depth = refl;
@@ -226,5 +239,5 @@ forced-progress k t l place = record {
     forced = All-cons (IsForcedAt t.depth)
         (record { lit = l; level = t.depth; reason = Some place }) [] (refl, refl) (All-nil (IsForcedAt t.depth));
   };
-  guards = λ done within all q there free. guarded-more t.assigned _ done (lits_at k q) (all q there free);
+  guards = λ done within q there g. guarded-more t.assigned _ done (lits_at k q) g;
 }

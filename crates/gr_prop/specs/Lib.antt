@@ -5,6 +5,7 @@ pub mod Ascending
 pub mod Watching
 pub mod Visits
 pub mod Walking
+pub mod Pairing
 pub mod Additions
 pub mod Compactions
 pub mod Learnt

@@ -43,9 +43,23 @@ watched (w ∷ o ∷ rest) l = bit (same_literal l w) + bit (same_literal l o)
 abbrev pub occurs : List Literal → ℕ → ℕ
 occurs c index = sum_by (λ x. bit (nat_eq x.index index)) c
 
--- a place stands in a literal's list as often as the literal is among the first two of its clause
-abbrev pub IsWatching : Store → WatchLists → Type 0
-IsWatching k lists = (place : ℕ) (l : Literal) → count_in place (list_of lists l) ≡ watched (lits_at k place) l
+-- a clause of two literals
+abbrev pub is_pair : List Literal → Bool
+is_pair c = nat_eq (length c) 2
+
+-- the clause where it is none of two literals
+abbrev pub longer : List Literal → List Literal
+longer c = if is_pair c then [] else c
+
+-- the clause where it is one of two literals
+abbrev pub paired : List Literal → List Literal
+paired c = if is_pair c then c else []
+
+-- among the clauses of a kind, a place stands in a literal's list as often as the literal is among the first two of its
+-- clause
+abbrev pub IsWatching : (List Literal → List Literal) → Store → WatchLists → Type 0
+IsWatching kind k lists =
+    (place : ℕ) (l : Literal) → count_in place (list_of lists l) ≡ watched (kind (lits_at k place)) l
 
 -- a watch's blocker is a literal of its clause
 abbrev pub IsBlocked : Store → Watch → Type 0
@@ -54,6 +68,20 @@ IsBlocked k w = members (lits_at k w.place.0) w.blocker ≡ true
 -- so is each watch's
 abbrev pub AreBlocked : Store → WatchLists → Type 0
 AreBlocked k lists = (l : Literal) → All (IsBlocked k) (list_of lists l)
+
+-- a watch of a clause of two literals has the other one beside it
+pub record IsOther (k : Store) (l : Literal) (w : Watch) : Type 0 where
+  pub two : is_pair (lits_at k w.place.0) ≡ true
+  pub own : members (lits_at k w.place.0) l ≡ true
+  pub other : members (lits_at k w.place.0) w.blocker ≡ true
+  pub apart : same_literal l w.blocker ≡ false
+
+-- the lists of the clauses of two literals
+pub record ArePaired (k : Store) (vars : ℕ) (pairs : WatchLists) : Type 0 where
+  pub watching : IsWatching paired k pairs
+  pub others : (l : Literal) → All (IsOther k l) (list_of pairs l)
+  pub vars' : pairs.vars ≡ vars
+  pub even : length pairs.lists ≡ 2 * vars
 
 -- no clause has a variable twice
 abbrev pub AllDistinct : Store → Type 0
@@ -123,7 +151,7 @@ pub record AreBroken (k : Store) (t : TrailState) (broken : List Place) : Type 0
 
 -- what a base keeps between its calls: the first `head` literals of the trail were propagated
 pub record IsReady (k : Store) (t : TrailState) (lists : WatchLists) (head : ℕ) (broken : List Place) : Type 0 where
-  pub watching : IsWatching k lists
+  pub watching : IsWatching longer k lists
   pub blocked : AreBlocked k lists
   pub distinct : AllDistinct k
   pub known : AreKnown k t.vars

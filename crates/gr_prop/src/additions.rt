@@ -4,7 +4,7 @@ ghost use Rattle.std.specs.List.{list_any};
 ghost use Rattle.gr_logic.specs.Literals.{Literal, negation};
 ghost use Rattle.gr_arena.specs.Arenas.{Has};
 ghost use Rattle.gr_watch.specs.WatchLists.{list_of, is_at};
-ghost use Rattle.gr_prop.specs.Watching.{lits_at, is_in};
+ghost use Rattle.gr_prop.specs.Watching.{lits_at, is_in, longer, paired};
 ghost use Rattle.gr_prop.specs.Visits.{IsReordered};
 ghost use Rattle.gr_prop.specs.Additions.{IsArranged, IsFronted, watching_too, unwatching, IsWatchedByTwo, StandsAs, attached, detached};
 ghost use Rattle.gr_trail.specs.Trails.{true_in};
@@ -78,16 +78,26 @@ pub(crate) fn assess(lits: &[Lit], trail: &Trail) -> Standing
     Standing::Rests
 }
 
-/// Watches a clause by its first two literals, where it has two.
-pub(crate) fn watch(watches: &mut Watches, place: Place, lits: &[Lit]) -> Result<(), OutOfMemory>
+/// Watches a clause by its first two literals, where it has two: one of two literals in lists of its
+/// own.
+pub(crate) fn watch(
+    watches: &mut Watches,
+    pairs: &mut Watches,
+    place: Place,
+    lits: &[Lit],
+) -> Result<(), OutOfMemory>
     requires known { All (λ l. l.index < watches.old.vars) lits.now }
-    ensures ok { OnOk result (watches.new ≡ watching_too watches.old place lits.now) }
+    requires alike { pairs.old.vars ≡ watches.old.vars }
+    ensures ok { OnOk result (watches.new ≡ watching_too watches.old place (longer lits.now)) }
+    ensures pairs { OnOk result (pairs.new ≡ watching_too pairs.old place (paired lits.now)) }
     ensures err { OnErr result (watches.new ≡ watches.old) }
+    ensures err_pairs { OnErr result (pairs.new ≡ pairs.old) }
 {
-    if lits.len() < 2 {
-        return Ok(());
+    match lits.len() {
+        0 | 1 => Ok(()),
+        2 => attach_both(pairs, place, lits[0], lits[1]),
+        _ => attach_both(watches, place, lits[0], lits[1]),
     }
-    attach_both(watches, place, lits[0], lits[1])
 }
 
 /// Attaches a watch of the clause to both literals, each the other's blocker.
@@ -130,16 +140,31 @@ fn attach_both(
 }
 
 /// Takes the watches of a clause out, where it has two literals.
-pub(crate) fn unwatch(watches: &mut Watches, place: Place, lits: &[Lit])
+pub(crate) fn unwatch(watches: &mut Watches, pairs: &mut Watches, place: Place, lits: &[Lit])
     requires known { All (λ l. l.index < watches.old.vars) lits.now }
-    requires watched { IsWatchedByTwo watches.old place lits.now }
-    ensures { watches.new ≡ unwatching watches.old place lits.now }
+    requires alike { pairs.old.vars ≡ watches.old.vars }
+    requires watched { IsWatchedByTwo watches.old place (longer lits.now) }
+    requires watched_pair { IsWatchedByTwo pairs.old place (paired lits.now) }
+    ensures watches { watches.new ≡ unwatching watches.old place (longer lits.now) }
+    ensures pairs { pairs.new ≡ unwatching pairs.old place (paired lits.now) }
 {
-    if lits.len() < 2 {
-        return;
+    match lits.len() {
+        0 | 1 => {}
+        2 => detach_both(pairs, place, lits[0], lits[1]),
+        _ => detach_both(watches, place, lits[0], lits[1]),
     }
-    watches.detach(lits[0], place);
-    watches.detach(lits[1], place);
+}
+
+/// Takes the watches of the clause out of the lists of both literals.
+fn detach_both(watches: &mut Watches, place: Place, first: Lit, second: Lit)
+    requires known { first.index < watches.old.vars }
+    requires known_too { second.index < watches.old.vars }
+    requires watched { IsTrue (list_any (is_at place) (list_of watches.old first)) }
+    requires watched_too { IsTrue (list_any (is_at place) (list_of (detached watches.old first place) second)) }
+    ensures { watches.new ≡ detached (detached watches.old first place) second place }
+{
+    watches.detach(first, place);
+    watches.detach(second, place);
 }
 
 /// Takes a place out of a list.

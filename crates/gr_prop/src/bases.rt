@@ -10,6 +10,7 @@ ghost use Rattle.gr_prop.specs.BaseChanges.{IsAddable, IsAdded, IsSettled, IsGro
 use crate::additions::{Standing, arrange, assess, forget, unwatch, watch};
 use crate::compacting::{move_index, move_places, move_reasons, move_watches};
 use crate::id_maps::IdMap;
+use crate::pairs::pass;
 use crate::walks::walk;
 use gr_arena::Arena;
 use gr_logic::{Clause, Ids, Lit, OutOfMemory, Place};
@@ -36,7 +37,10 @@ pub enum Propagated {
 pub struct Base {
     arena: Arena,
     trail: Trail,
+    /// The watches of the clauses of more than two literals.
     watches: Watches,
+    /// The watches of the clauses of two literals.
+    pairs: Watches,
     /// Where the clause of each id is.
     places: IdMap,
     /// How many literals of the trail were propagated.
@@ -50,7 +54,7 @@ pub struct Base {
 impl Model for Base {
     ghost use Rattle.gr_prop.specs.Bases.{BaseState, clauses_in};
     ghost use Rattle.gr_prop.specs.BaseCodes.{base_code};
-    ghost use Rattle.gr_prop.specs.Watching.{IsKeptBase};
+    ghost use Rattle.gr_prop.specs.Watching.{IsKeptBase, ArePaired};
 
     ghost Value = { BaseState };
 
@@ -64,7 +68,7 @@ impl Model for Base {
     } };
 
     ghost invariant = { λ base. IsKeptBase base.arena.clauses base.trail base.watches base.places base.head
-        base.broken.items base.quiet base.conflict };
+        base.broken.items base.quiet base.conflict × ArePaired base.arena.clauses base.trail.vars base.pairs };
 }
 
 impl Base {
@@ -75,10 +79,12 @@ impl Base {
     {
         let trail = Trail::new(alloc, vars)?;
         let watches = Watches::new(alloc, vars)?;
+        let pairs = Watches::new(alloc, vars)?;
         Ok(Base {
             arena: Arena::new(alloc),
             trail,
             watches,
+            pairs,
             places: IdMap::new(alloc),
             head: 0,
             broken: Vec::new(alloc),
@@ -106,7 +112,8 @@ impl Base {
             self.arena.remove(place);
             return Err(wanting);
         }
-        if let Err(wanting) = watch(&mut self.watches, place, self.arena.lits(place)) {
+        let lits = self.arena.lits(place);
+        if let Err(wanting) = watch(&mut self.watches, &mut self.pairs, place, lits) {
             self.places.remove(id);
             self.arena.remove(place);
             return Err(wanting);
@@ -128,7 +135,8 @@ impl Base {
         ensures { self.new
             ≡ record self.old { clauses = finite.remove self.old.clauses place.0; conflict = None } }
     {
-        unwatch(&mut self.watches, place, self.arena.lits(place));
+        let lits = self.arena.lits(place);
+        unwatch(&mut self.watches, &mut self.pairs, place, lits);
         self.places.remove(self.arena.id(place));
         forget(&mut self.broken, place);
         self.arena.remove(place);
@@ -193,7 +201,14 @@ impl Base {
             self.conflict = Some(place);
             return Ok(Propagated::Conflict { place });
         }
+        // So many literals of the trail passed the binary clauses.
+        let mut ahead = self.head;
         while self.head < self.trail.lits().len() {
+            if let Some(place) = pass(&self.arena, &mut self.trail, &self.pairs, ahead) {
+                self.conflict = Some(place);
+                return Ok(Propagated::Conflict { place });
+            }
+            ahead = self.trail.lits().len();
             let gone = self.trail.lits()[self.head].negate();
             let mut list = self.watches.take(gone);
             let found = walk(
@@ -262,6 +277,7 @@ impl Base {
         move_index(&mut self.places, ids.all(), &moves);
         move_reasons(&mut self.trail, &moves);
         move_watches(&mut self.watches, &moves, vars);
+        move_watches(&mut self.pairs, &moves, vars);
         move_places(&mut self.broken, &moves);
         self.conflict = None;
         Ok(())

@@ -6,6 +6,7 @@ mod bases;
 mod compacting;
 mod id_maps;
 pub mod laws;
+mod pairs;
 mod visits;
 mod walks;
 

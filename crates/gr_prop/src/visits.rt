@@ -34,6 +34,18 @@ pub(crate) fn holds(trail: &Trail, lit: Lit) -> bool
     }
 }
 
+/// Whether the literal is false: one load, where its negation's value would be looked up elsewhere.
+fn falls(trail: &Trail, lit: Lit) -> bool
+    requires { lit.index < trail.now.vars }
+    ensures { result ≡ true_in trail.now.assigned (negation lit) }
+{
+    let _depth = trail.depth();
+    match trail.value(lit) {
+        Some(value) => !value,
+        None => false,
+    }
+}
+
 /// Makes the literal the second of the clause.
 fn bring_second(arena: &mut Arena, place: Place, gone: Lit)
     requires there { Has arena.old place }
@@ -59,7 +71,7 @@ pub(crate) fn find_free(lits: &[Lit], trail: &Trail, from: usize) -> Option<usiz
 {
     let mut at = from;
     while at < lits.len() {
-        if !holds(trail, lits[at].negate()) {
+        if !falls(trail, lits[at]) {
             return Some(at);
         }
         at += 1;
@@ -109,7 +121,7 @@ pub(crate) fn visit(
             Ok(Ending::Moves)
         }
         None => {
-            if holds(trail, other.negate()) {
+            if falls(trail, other) {
                 return Ok(Ending::Fails);
             }
             trail.assign(other, place);

@@ -7,23 +7,28 @@ use gr_logic::{Lit, Place};
 use std::alloc::Global;
 use std::test::Fail;
 
-/// Decides -1 and -3, with propagation before and behind each: the place of the conflict, where there
-/// is one at the second level, and the trail was -1 and -2 at the first.
-fn second_level(base: &mut Base) -> Result<Option<Place>, Fail>
+/// Decides two literals, with propagation before and behind each: the place of the conflict, where
+/// there is one at the second level, and the trail had just these literals at the first.
+fn second_level(
+    base: &mut Base,
+    first: Lit,
+    second: Lit,
+    trail: &[Lit],
+) -> Result<Option<Place>, Fail>
     requires { base.old.trail.vars ≡ 6 }
     ensures { OnOk result (base.new.trail.vars ≡ 6) }
 {
     let Propagated::Quiet = base.propagate()? else {
         return Ok(None);
     };
-    decide(base, lit(-1)?);
+    decide(base, first);
     let Propagated::Quiet = base.propagate()? else {
         return Ok(None);
     };
-    if base.trail().lits() != [lit(-1)?, lit(-2)?].as_slice() {
+    if base.trail().lits() != trail {
         return Ok(None);
     }
-    decide(base, lit(-3)?);
+    decide(base, second);
     match base.propagate()? {
         Propagated::Quiet => Ok(None),
         Propagated::Conflict { place } => Ok(Some(place)),
@@ -34,8 +39,20 @@ fn second_level(base: &mut Base) -> Result<Option<Place>, Fail>
 fn ends_in_a_conflict(rt: HostRuntime) -> Result<(), Fail> {
     let clauses = clauses_of(rt.alloc(), "1 -2 0 1 2 3 4 0 1 2 3 -4 0")?;
     let mut base = base_of(rt.alloc(), clauses.as_slice())?;
-    let place = second_level(&mut base)?.ok_or("no conflict")?;
+    let trail = [lit(-1)?, lit(-2)?];
+    let place = second_level(&mut base, lit(-1)?, lit(-3)?, &trail)?.ok_or("no conflict")?;
     assert!(rt; base.find(2) == Some(place) || base.find(3) == Some(place));
+    Ok(())
+}
+
+#[test]
+fn propagates_binary_clauses_first(rt: HostRuntime) -> Result<(), Fail> {
+    // At the second level the first two clauses are in conflict too.
+    let clauses = clauses_of(rt.alloc(), "-1 -5 3 0 -1 -5 -3 0 -1 2 0 -1 -2 0")?;
+    let mut base = base_of(rt.alloc(), clauses.as_slice())?;
+    let trail = [lit(5)?];
+    let place = second_level(&mut base, lit(5)?, lit(1)?, &trail)?.ok_or("no conflict")?;
+    assert!(rt; base.find(3) == Some(place) || base.find(4) == Some(place));
     Ok(())
 }
 
@@ -61,7 +78,8 @@ fn trail_with_learnt(base: &mut Base, alloc: Global) -> Result<Vec<Lit>, Fail>
 fn adds_what_a_conflict_taught(rt: HostRuntime) -> Result<(), Fail> {
     let clauses = clauses_of(rt.alloc(), "1 -2 0 1 2 3 4 0 1 2 3 -4 0")?;
     let mut base = base_of(rt.alloc(), clauses.as_slice())?;
-    second_level(&mut base)?.ok_or("no conflict")?;
+    let first = [lit(-1)?, lit(-2)?];
+    second_level(&mut base, lit(-1)?, lit(-3)?, &first)?.ok_or("no conflict")?;
     let trail = trail_with_learnt(&mut base, rt.alloc())?;
     assert_eq!(rt; trail.as_slice(), [lit(-1)?, lit(-2)?, lit(3)?].as_slice());
     Ok(())

@@ -33,21 +33,19 @@ pub attach-moved-requires : goal.attach-moved-requires
 attach-moved-requires c = subst (λ n. c.index-lits-k.result.index < n) (sym c.requires.vars)
     (next-known (goal.at.attach-moved-requires c).After-index-lits-k)
 
-pub holds-requires-in-None : goal.holds-requires-in-None
-holds-requires-in-None c = subst (λ (l : Literal). l.index < c.args.trail.now.vars) (sym c.negate.ensures)
-    (other-known (goal.at.holds-requires-in-None c).After-index-lits-0)
+pub falls-requires : goal.falls-requires
+falls-requires c = other-known (goal.at.falls-requires c).After-index-lits-0
 
-pub returns-then-holds-2-clause-ok : goal.returns-then-holds-2-clause-ok
-returns-then-holds-2-clause-ok c =
+pub returns-then-falls-clause-ok : goal.returns-then-falls-clause-ok
+returns-then-falls-clause-ok c =
     let turned = c.bring_second.ensures.turned in
-    let is = other-is (goal.at.returns-then-holds-2-clause-ok c).After-index-lits-0 in
-    let others-false = others (goal.at.returns-then-holds-2-clause-ok c).In-None in
+    let is = other-is (goal.at.returns-then-falls-clause-ok c).After-index-lits-0 in
+    let others-false = others (goal.at.returns-then-falls-clause-ok c).In-None in
     record {
       reordered = c.bring_second.ensures.reordered;
       turned = turned;
       all_false = all-false _ _ turned.first (ap (λ l. true_in c.args.trail.now.assigned (negation l)) (sym is)
-          ∙ ap (true_in c.args.trail.now.assigned) (sym c.negate.ensures) ∙ sym c.holds-in-None.ensures ∙
-          c.if-holds-2.true) others-false;
+          ∙ sym c.falls.ensures ∙ c.if-falls.true) others-false;
       trail = refl;
       lists = refl;
     }
@@ -99,11 +97,11 @@ returns-in_default-clause-ok c =
           (other-is (goal.at.returns-in_default-clause-ok c).After-index-lits-0);
     }
 
-pub returns-else-holds-2-clause-ok : goal.returns-else-holds-2-clause-ok
-returns-else-holds-2-clause-ok c =
+pub returns-else-falls-clause-ok : goal.returns-else-falls-clause-ok
+returns-else-falls-clause-ok c =
     let turned = c.bring_second.ensures.turned in
-    let is = other-is (goal.at.returns-else-holds-2-clause-ok c).After-index-lits-0 in
-    let others-false = others (goal.at.returns-else-holds-2-clause-ok c).In-None in
+    let is = other-is (goal.at.returns-else-falls-clause-ok c).After-index-lits-0 in
+    let others-false = others (goal.at.returns-else-falls-clause-ok c).In-None in
     record {
       reordered = c.bring_second.ensures.reordered;
       turned = turned;
@@ -113,8 +111,7 @@ returns-else-holds-2-clause-ok c =
         subst (OthersFalse c.args.trail.now.assigned (lits_at c.bring_second.new.arena.clauses c.args.place.0))
             (sym is) others-false,
         sym c.holds.ensures ∙ c.if-holds.false,
-        ap (true_in c.args.trail.now.assigned) (sym c.negate.ensures) ∙ sym c.holds-in-None.ensures ∙
-            c.if-holds-2.false,
+        sym c.falls.ensures ∙ c.if-falls.false,
         c.assign.ensures,
       );
     }

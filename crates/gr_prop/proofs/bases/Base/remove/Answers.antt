@@ -1,14 +1,14 @@
 use Rattle.std.proofs.Common.{◌≢◌, IsSome, Some, None, All, ap, sym, ◌∙◌, subst}
 use Rattle.std.specs.FinMap as finite
 use Rattle.gr_prop.specs.Bases.{BaseState, clauses_in}
-use Rattle.gr_prop.specs.Watching.{IsKeptBase}
+use Rattle.gr_prop.specs.Watching.{IsKeptBase, longer, paired, ArePaired}
 use Rattle.gr_prop.specs.Additions.{IsWatchedByTwo, unwatching}
 use Rattle.gr_prop.proofs.Stores.{clauses-remove}
-use Rattle.gr_prop.proofs.Removing.{there-in-base, watched-by-two, kept-removed}
+use Rattle.gr_prop.proofs.Removing.{there-in-base, paired-by-two, paired-removed, watched-by-two, kept-removed}
 use Rattle.gr_prop.proofs.bases.Base.remove.Goals as goal
 
-pub lits-requires : goal.lits-requires
-lits-requires c = there-in-base c.self.inside.arena.clauses c.args.place.0
+pub lits-lits-requires : goal.lits-lits-requires
+lits-lits-requires c = there-in-base c.self.inside.arena.clauses c.args.place.0
     (subst (λ (b : BaseState). IsSome (finite.get b.clauses c.args.place.0)) (sym c.self.view_is) c.requires.there)
 
 pub id-requires : goal.id-requires
@@ -19,6 +19,17 @@ pub remove-requires-2 : goal.remove-requires-2
 remove-requires-2 c = there-in-base c.self.inside.arena.clauses c.args.place.0
     (subst (λ (b : BaseState). IsSome (finite.get b.clauses c.args.place.0)) (sym c.self.view_is) c.requires.there)
 
+pub unwatch-requires-clause-watched_pair : goal.unwatch-requires-clause-watched_pair
+unwatch-requires-clause-watched_pair c =
+    let s = c.self.inside in
+    let there = there-in-base s.arena.clauses c.args.place.0 (subst
+    (λ (b : BaseState). IsSome (finite.get b.clauses c.args.place.0)) (sym c.self.view_is) c.requires.there) in
+    let free = subst (λ (b : BaseState). All (λ a. a.reason ≢ Some c.args.place) b.trail.assigned)
+    (sym c.self.view_is) c.requires.unneeded in
+    subst (λ ls. IsWatchedByTwo s.pairs c.args.place (paired ls)) (sym c.lits-lits.ensures)
+    (paired-by-two s.arena.clauses s.trail s.watches s.places s.head s.broken.items s.quiet s.conflict c.args.place
+    c.self.invariant.0 there free s.pairs c.self.invariant.1)
+
 pub unwatch-requires-clause-watched : goal.unwatch-requires-clause-watched
 unwatch-requires-clause-watched c =
     let s = c.self.inside in
@@ -26,9 +37,9 @@ unwatch-requires-clause-watched c =
     (λ (b : BaseState). IsSome (finite.get b.clauses c.args.place.0)) (sym c.self.view_is) c.requires.there) in
     let free = subst (λ (b : BaseState). All (λ a. a.reason ≢ Some c.args.place) b.trail.assigned)
     (sym c.self.view_is) c.requires.unneeded in
-    subst (IsWatchedByTwo s.watches c.args.place) (sym c.lits.ensures)
+    subst (λ ls. IsWatchedByTwo s.watches c.args.place (longer ls)) (sym c.lits-lits.ensures)
     (watched-by-two s.arena.clauses s.trail s.watches s.places s.head s.broken.items s.quiet s.conflict c.args.place
-    c.self.invariant there free)
+    c.self.invariant.0 there free)
 
 pub invariant_of-self : goal.invariant_of-self
 invariant_of-self c =
@@ -36,14 +47,20 @@ invariant_of-self c =
     let there = there-in-base s.arena.clauses c.args.place.0 (subst
     (λ (b : BaseState). IsSome (finite.get b.clauses c.args.place.0)) (sym c.self.view_is) c.requires.there) in
     let free = subst (λ (b : BaseState). All (λ a. a.reason ≢ Some c.args.place) b.trail.assigned)
-    (sym c.self.view_is) c.requires.unneeded in
-    subst (λ k. IsKeptBase k s.trail c.unwatch.new.watches c.remove.new.self s.head c.forget.new.places.items s.quiet
-    None) (sym (ap (λ a. a.clauses) c.remove-2.ensures))
-    (kept-removed s.arena.clauses s.trail s.watches s.places s.head s.broken.items s.quiet s.conflict c.args.place
-    c.self.invariant there free
-    c.unwatch.new.watches (c.unwatch.ensures ∙ ap (unwatching s.watches c.args.place) c.lits.ensures)
-    c.remove.new.self (c.remove.ensures ∙ ap (finite.remove s.places) c.id.ensures)
-    c.forget.new.places.items c.forget.ensures)
+    (sym c.self.view_is) c.requires.unneeded in (
+      subst (λ k. IsKeptBase k s.trail c.unwatch.new.watches c.remove.new.self s.head c.forget.new.places.items s.quiet
+          None) (sym (ap (λ a. a.clauses) c.remove-2.ensures))
+          (kept-removed s.arena.clauses s.trail s.watches s.places s.head s.broken.items s.quiet s.conflict c.args.place
+          c.self.invariant.0 there free
+          c.unwatch.new.watches (c.unwatch.ensures.watches ∙ ap (λ ls. unwatching s.watches c.args.place
+          (longer ls)) c.lits-lits.ensures)
+          c.remove.new.self (c.remove.ensures ∙ ap (finite.remove s.places) c.id.ensures)
+          c.forget.new.places.items c.forget.ensures),
+      subst (λ k. ArePaired k s.trail.vars c.unwatch.new.pairs) (sym (ap (λ a. a.clauses) c.remove-2.ensures))
+          (paired-removed s.arena.clauses s.trail s.watches s.places s.head s.broken.items s.quiet s.conflict c.args.place
+          c.self.invariant.0 there free s.pairs c.self.invariant.1 c.unwatch.new.pairs
+          (c.unwatch.ensures.pairs ∙ ap (λ ls. unwatching s.pairs c.args.place (paired ls)) c.lits-lits.ensures)),
+    )
 
 pub returns : goal.returns
 returns c =

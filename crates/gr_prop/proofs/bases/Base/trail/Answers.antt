@@ -7,4 +7,4 @@ pub returns-clause-base : goal.returns-clause-base
 returns-clause-base c =
     let s = c.self.inside in
     subst IsBase c.self.view_is (base-is s.arena.clauses s.trail s.watches s.places s.head s.broken.items s.quiet
-    s.conflict c.self.invariant)
+    s.conflict c.self.invariant.0)
