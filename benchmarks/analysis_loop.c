@@ -41,6 +41,13 @@ struct learnt { uint32_t *lits; size_t len; uint64_t *hints; size_t hints_len; u
         (v)->items[(v)->len++] = (item);                                                       \
     } while (0)
 
+/* Room that is written at once. */
+static void *taken(size_t count, size_t size) {
+    void *memory = malloc(count * size);
+    if (!memory) exit(6);
+    return memory;
+}
+
 static struct notes *notes_for(uint32_t vars) {
     struct notes *n = room(1, sizeof *n);
     n->standings = room(vars, 1);
@@ -223,7 +230,7 @@ static void gather(struct notes *n, const struct base *b, size_t conflict, struc
         else PUSH(&n->lower, key);
     }
     sort(n->lower.items, n->lower.len, &n->sorted);
-    uint64_t *hints = room(n->marked.len + 1, sizeof *hints);
+    uint64_t *hints = taken(n->marked.len + 1, sizeof *hints);
     size_t len = 0;
     for (size_t i = 0; i < n->lower.len; i++) hints[len++] = id_at(b, b->entries[(uint32_t)n->lower.items[i]].reason);
     for (size_t i = n->here.len; i-- > 0;) hints[len++] = id_at(b, b->entries[(uint32_t)n->here.items[i]].reason);
@@ -234,7 +241,7 @@ static void gather(struct notes *n, const struct base *b, size_t conflict, struc
 
 /* Copies the clause, with a literal of the highest other level behind the first, and counts its levels. */
 static void finish(struct notes *n, const struct base *b, uint32_t first, struct learnt *learnt) {
-    uint32_t *lits = room(n->lits.len + 1, sizeof *lits), lbd = 1, back_to = 0;
+    uint32_t *lits = taken(n->lits.len + 1, sizeof *lits), lbd = 1, back_to = 0;
     size_t best = 0;
     n->stamp++;
     lits[0] = first;

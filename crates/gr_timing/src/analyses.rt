@@ -1,6 +1,7 @@
 // Analysing conflicts to which decisions lead that are drawn, over the clauses of a formula.
 ghost use Rattle.std.specs.Prelude.{◌≡◌, Some};
 
+use crate::arenas::codes;
 use crate::bases::base_of;
 use crate::propagations::{descend, propagate};
 use gr_analyze::{Analyzer, Learnt};
@@ -57,14 +58,17 @@ fn analyze(
     Ok(sum)
 }
 
-/// What was learnt, as a number.
+/// What was learnt, as a number: the order of the clause's literals matters in its first one alone.
 fn number_of(learnt: &Learnt) -> u64 {
-    let mut sum = learnt.lbd as u64;
-    for lit in learnt.clause.lits() {
-        sum = sum.wrapping_mul(31).wrapping_add(lit.code() as u64);
+    let mut sum = (learnt.lbd as u64)
+        .wrapping_mul(31)
+        .wrapping_add(learnt.back_to as u64);
+    if let [first, others @ ..] = learnt.clause.lits() {
+        sum = sum.wrapping_mul(31).wrapping_add(first.code() as u64);
+        sum = sum.wrapping_mul(31).wrapping_add(codes(others));
     }
     for id in learnt.hints.all() {
         sum = sum.wrapping_mul(31).wrapping_add(*id);
     }
-    sum.wrapping_mul(31).wrapping_add(learnt.back_to as u64)
+    sum
 }
