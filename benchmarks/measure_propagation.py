@@ -28,23 +28,23 @@ def said_by(words):
     return used.ru_utime, said, heard
 
 
-def seconds(program, cnf, rounds):
-    empty, _, _ = said_by([program, "propagation", cnf, "0"])
-    whole, said, _ = said_by([program, "propagation", cnf, str(rounds)])
+def seconds(program, loop, cnf, rounds):
+    empty, _, _ = said_by([program, loop, cnf, "0"])
+    whole, said, _ = said_by([program, loop, cnf, str(rounds)])
     return whole - empty, said
 
 
-def instructions(program, cnf, rounds):
+def instructions(program, loop, cnf, rounds):
     counts = []
     for number in (0, rounds):
         tool = ["valgrind", "--tool=callgrind", "--callgrind-out-file=/dev/null"]
-        _, _, heard = said_by([*tool, program, "propagation", cnf, str(number)])
+        _, _, heard = said_by([*tool, program, loop, cnf, str(number)])
         counts.append(int(re.search(r"Collected : (\d+)", heard).group(1)))
     return counts[1] - counts[0]
 
 
-def built(folder):
-    source = os.path.join(os.path.dirname(os.path.abspath(__file__)), "propagation_loop.c")
+def built(folder, loop):
+    source = os.path.join(os.path.dirname(os.path.abspath(__file__)), f"{loop}_loop.c")
     programs = {}
     for compiler in ("gcc", "clang"):
         if shutil.which(compiler):
@@ -55,12 +55,12 @@ def built(folder):
     return programs
 
 
-def measure_time(programs, cnf, rounds, runs):
+def measure_time(programs, loop, cnf, rounds, runs):
     times = {name: [] for name in programs}
     for _ in range(runs):
         answers = set()
         for name, program in programs.items():
-            time, said = seconds(program, cnf, rounds)
+            time, said = seconds(program, loop, cnf, rounds)
             times[name].append(time)
             answers.add(said)
         if len(answers) != 1:
@@ -77,15 +77,15 @@ def measure_time(programs, cnf, rounds, runs):
     )
 
 
-def measure_instructions(programs, cnf, rounds):
-    counts = {name: instructions(program, cnf, rounds) for name, program in programs.items()}
+def measure_instructions(programs, loop, cnf, rounds):
+    counts = {name: instructions(program, loop, cnf, rounds) for name, program in programs.items()}
     print(f"{cnf} instructions: " + ", ".join(f"{name} {count / 1e6:.1f} million" for name, count in counts.items()))
     fewest = min(count for name, count in counts.items() if name != "gr_timing")
     print(f"{cnf}: instructions to the fewer of C, {counts['gr_timing'] / fewest:.2f}", flush=True)
 
 
-def main():
-    parser = argparse.ArgumentParser(description=__doc__, formatter_class=argparse.RawDescriptionHelpFormatter)
+def main(loop, description):
+    parser = argparse.ArgumentParser(description=description, formatter_class=argparse.RawDescriptionHelpFormatter)
     parser.add_argument("program")
     parser.add_argument("formulas", nargs="+", metavar="CNF[:ROUNDS]")
     parser.add_argument("--runs", type=int, default=7)
@@ -95,14 +95,14 @@ def main():
     if options.core is not None:
         os.sched_setaffinity(0, {options.core})
     with tempfile.TemporaryDirectory() as folder:
-        programs = {"gr_timing": options.program, **built(folder)}
+        programs = {"gr_timing": options.program, **built(folder, loop)}
         for formula in options.formulas:
             cnf, _, number = formula.partition(":")
             rounds = int(number or 100)
-            measure_time(programs, cnf, rounds, options.runs)
+            measure_time(programs, loop, cnf, rounds, options.runs)
             if options.instructions:
-                measure_instructions(programs, cnf, rounds)
+                measure_instructions(programs, loop, cnf, rounds)
 
 
 if __name__ == "__main__":
-    main()
+    main("propagation", __doc__)

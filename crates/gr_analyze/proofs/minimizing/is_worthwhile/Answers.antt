@@ -1,0 +1,25 @@
+-- a false literal's variable has a value, and its level is known
+use Rattle.std.proofs.Common.{◌≡◌, sym, subst, arith, IsSome, Some}
+use Rattle.std.specs.Prelude.{option_map}
+use Rattle.gr_trail.specs.Trails.{Assigned, assigned_to}
+use Rattle.gr_analyze.proofs.FalseLiterals.{false-some, level-within, depth-le}
+use Rattle.gr_analyze.proofs.minimizing.is_worthwhile.Goals as goal
+
+pub level-level-requires : goal.level-level-requires
+level-level-requires c =
+    subst (λ v. IsSome (assigned_to c.args.trail.now.assigned v)) (sym c.var-var.ensures.number)
+    (false-some c.args.trail.now.assigned c.args.lit c.requires.trail.distinct c.requires.gone)
+
+pub position-requires : goal.position-requires
+position-requires c =
+    subst (λ v. IsSome (assigned_to c.args.trail.now.assigned v)) (sym c.var-var.ensures.number)
+    (false-some c.args.trail.now.assigned c.args.lit c.requires.trail.distinct c.requires.gone)
+
+pub has_other_before-requires : goal.has_other_before-requires
+has_other_before-requires c =
+    let read = subst (λ v. option_map (λ (a : Assigned). a.level) (assigned_to c.args.trail.now.assigned v)
+    ≡ Some c.level-level.result) c.var-var.ensures.number c.level-level.ensures in
+    let le = level-within c.args.trail.now c.args.lit c.level-level.result c.requires.trail c.requires.gone read in
+    let most = depth-le c.args.trail.now c.requires.trail in
+    let s = c.requires.sized.levels in
+    omega arith
