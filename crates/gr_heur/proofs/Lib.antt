@@ -1,0 +1,2 @@
+pub mod Sliding
+pub mod Dropping

@@ -1,0 +1,4 @@
+pub mod Orders
+pub mod Queues
+pub mod Stored
+pub mod Windows
