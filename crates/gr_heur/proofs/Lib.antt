@@ -1,2 +1,5 @@
 pub mod Sliding
 pub mod Dropping
+pub mod Fresh
+pub mod Picking
+pub mod Settling

@@ -73,9 +73,7 @@ impl Queue {
         ensures raises { Raises index self.old.places.items self.new.places.items }
     {
         self.make_room();
-        if (self.places[index] as usize) < self.base {
-            self.fresh += 1;
-        }
+        self.fresh += usize::from((self.places[index] as usize) < self.base);
         self.slots[self.len] = index as u32;
         self.places[index] = self.len as u32;
         self.len += 1;
