@@ -1,8 +1,8 @@
 -- a variable that is as active as any moves before those of lesser number
-use Rattle.std.proofs.Common.{◌≡◌, ◌≢◌, ◌⊎◌, ℕ, ◌+◌, ◌-◌, ◌<◌, ◌≤◌, List, length, set, ap, sym, ◌∙◌, arith, inl, inr, get_or-set_same, get_or-set_other, length-set}
+use Rattle.std.proofs.Common.{◌≡◌, ◌≢◌, ℕ, ◌+◌, ◌-◌, ◌<◌, ◌≤◌, List, length, set, ap, sym, ◌∙◌, arith, inl, inr, get_or-set_same, get_or-set_other, length-set}
 use Rattle.std.specs.Prelude.{slice_index}
-use Rattle.std.proofs.lemmas.Bool.{cases_eq, cases_lt}
-use Rattle.gr_heur.specs.Queues.{IsQueue, IsRanked, IsRankedBut, IsGreatest}
+use Rattle.std.proofs.lemmas.Bool.{cases_eq}
+use Rattle.gr_heur.specs.Queues.{IsQueue, IsRankedBut}
 
 -- the others are in order, and those behind the variable are as active and of lesser number
 pub record IsSettling (activities : List ℕ) (index : ℕ) (slots places : List ℕ) (len at : ℕ) : Type 0 where
@@ -226,89 +226,3 @@ module _ {activities : List ℕ} {index : ℕ} {slots places : List ℕ} {len at
         | inr apart' ↦ now.lesser w (omega (arith, low, many')) apart (live_behind w low apart apart' far)
       ];
     }
-
--- where no variable that is as active and of lesser number stands before, all are in order
-module _ {activities : List ℕ} {index : ℕ} {slots places : List ℕ} {len at : ℕ}
-    (now : IsSettling activities index slots places len at) (known : index < length places)
-    (greatest : IsGreatest activities index) where
-  differs : (w : ℕ) → w < length places → w ≢ index → slice_index places w ≢ at
-  differs w low apart here =
-      apart (sym (now.queue.stands w low) ∙ ap (slice_index slots) (here ∙ sym now.stands)
-      ∙ now.queue.stands index known)
-
-  module _ (stops : (w : ℕ) → w < length places → w ≢ index
-      → slice_index activities w ≡ slice_index activities index → slice_index places w < at → index < w) where
-    pub settled : IsRanked activities places
-    settled = record {
-      more = λ v w low low' lt. elim (cases_eq w index) [
-        | inl w_is ↦ absurd (omega (arith, lt, ap (slice_index activities) w_is, greatest v))
-        | inr w_not ↦ elim (cases_eq v index) [
-          | inl v_is ↦
-              (let at_v = ap (slice_index places) v_is in
-              let active_v = ap (slice_index activities) v_is in
-              let not_here = differs w low' w_not in
-              let behind = now.as_active w low' w_not in
-              elim (cases_lt at (slice_index places w)) [
-                | inl far ↦ absurd (omega (arith, lt, active_v, behind far))
-                | inr near ↦ omega (arith, near, not_here, at_v, now.stands)
-              ])
-          | inr v_not ↦ now.others.more v w low low' v_not w_not lt
-        ]
-      ];
-      tie = λ v w low low' same lt. elim (cases_eq w index) [
-        | inl w_is ↦
-            (let v_not : v ≢ index = omega (arith, lt, w_is) in
-            let at_w = ap (slice_index places) w_is in
-            let not_here = differs v low v_not in
-            elim (cases_lt (slice_index places v) at) [
-              | inl near ↦ absurd (omega (arith, lt, w_is,
-                  stops v low v_not (sym same ∙ ap (slice_index activities) w_is) near))
-              | inr far ↦ omega (arith, far, not_here, at_w, now.stands)
-            ])
-        | inr w_not ↦ elim (cases_eq v index) [
-          | inl v_is ↦
-              (let at_v = ap (slice_index places) v_is in
-              let not_here = differs w low' w_not in
-              elim (cases_lt at (slice_index places w)) [
-                | inl far ↦ absurd (omega (arith, lt, v_is, now.lesser w low' w_not far))
-                | inr near ↦ omega (arith, near, not_here, at_v, now.stands)
-              ])
-          | inr v_not ↦ now.others.tie v w low low' v_not w_not same lt
-        ]
-      ];
-    }
-
-  -- the slot before is live, and its variable is less active or of greater number
-  pub stops_at : (below : ℕ) → 0 < at → below < length places → slice_index places below ≡ at - 1
-      → (slice_index activities below < slice_index activities index) ⊎ (index < below)
-      → IsRanked activities places
-  stops_at below some low live ends =
-      let below_not : below ≢ index =
-          (λ e. let here = ap (slice_index places) e in let stands = now.stands in
-          omega (arith, here, live, some, stands)) in
-      settled (λ w low' w_not same near. elim (cases_eq w below) [
-        | inl here ↦
-            (let active = ap (slice_index activities) here in
-            elim ends [
-              | inl less ↦ absurd (omega (arith, less, same, active))
-              | inr more ↦ omega (arith, more, here)
-            ])
-        | inr apart ↦
-            (let place_differs : slice_index places w ≢ slice_index places below =
-                (λ e. apart (sym (now.queue.stands w low') ∙ ap (slice_index slots) e ∙ now.queue.stands below low)) in
-            let most = greatest below in
-            let more = now.others.more w below low' low w_not below_not in
-            let tie = now.others.tie w below low' low w_not below_not in
-            elim (cases_lt (slice_index activities below) (slice_index activities w)) [
-              | inl less ↦ absurd (omega (arith, more less, near, live, place_differs))
-              | inr as_much ↦
-                  (let equal : slice_index activities below ≡ slice_index activities w = omega (arith, as_much, same, most) in
-                  elim (cases_lt w below) [
-                    | inl smaller ↦ absurd (omega (arith, tie equal smaller, near, live, place_differs))
-                    | inr greater ↦ elim ends [
-                      | inl less ↦ absurd (omega (arith, less, same, equal))
-                      | inr more' ↦ omega (arith, more', greater)
-                    ]
-                  ])
-            ])
-      ])
