@@ -109,6 +109,15 @@ module _ {old : List ℕ} {from len : ℕ} {slots places : List ℕ} {at kept : 
         ]
       ]
 
+  moved_lower : (w : ℕ) → w < length old → slice_index (set places v kept) w ≤ slice_index old w
+  moved_lower w low =
+      let was = before.order.lower w low in
+      elim (cases_eq w v) [
+        | inl here ↦ omega (arith, ap (slice_index (set places v kept)) here, ap (slice_index places) here, place_v,
+            stands_here, before.behind, was)
+        | inr apart ↦ omega (arith, place_other w apart, was)
+      ]
+
   moved_split : (w : ℕ) → w < length (set places v kept) → kept + 1 ≤ slice_index (set places v kept) w
       → at + 1 ≤ slice_index (set places v kept) w
   moved_split w low far = elim (cases_eq w v) [
@@ -145,7 +154,7 @@ module _ {old : List ℕ} {from len : ℕ} {slots places : List ℕ} {at kept : 
       below = moved_below;
       stands = moved_stands;
     };
-    order = record { as_many = many ∙ before.order.as_many; order = moved_order };
+    order = record { as_many = many ∙ before.order.as_many; lower = moved_lower; order = moved_order };
     begun = omega (arith, before.begun);
     behind = omega (arith, before.behind);
     at_most = omega (arith, within);

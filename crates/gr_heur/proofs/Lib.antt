@@ -1,5 +1,6 @@
 pub mod Sliding
 pub mod Dropping
 pub mod Fresh
+pub mod Bumping
 pub mod Picking
 pub mod Settling

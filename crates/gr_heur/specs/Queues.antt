@@ -17,15 +17,17 @@ pub record IsReady (queue : Queue) : Type 0 where
   pub room : length queue.places.items < length queue.slots.items
   pub begun : queue.base + queue.fresh ≤ queue.len
 
--- the variables stay in order
+-- the variables stay in order, and none moves back
 pub record KeepsOrder (old new : List ℕ) : Type 0 where
   pub as_many : length new ≡ length old
+  pub lower : (v : ℕ) → v < length old → slice_index new v ≤ slice_index old v
   pub order : (v w : ℕ) → v < length old → w < length old
       → slice_index old v < slice_index old w → slice_index new v < slice_index new w
 
--- the variable is last, and the others stay in order
+-- the variable is last, and the others stay in order and do not move back
 pub record Raises (index : ℕ) (old new : List ℕ) : Type 0 where
   pub as_many : length new ≡ length old
+  pub lower : (v : ℕ) → v < length old → v ≢ index → slice_index new v ≤ slice_index old v
   pub last : (w : ℕ) → w < length old → w ≢ index → slice_index new w < slice_index new index
   pub order : (v w : ℕ) → v < length old → w < length old → v ≢ index → w ≢ index
       → slice_index old v < slice_index old w → slice_index new v < slice_index new w

@@ -83,7 +83,12 @@ impl Order {
         self.bumps += 1;
         self.activities[index] = self.bumps;
         self.queue.raise(index);
-        self.bound = self.queue.len;
+        self.bound = if self.present[index] {
+            self.queue.len
+        } else {
+            // What is out may stand behind the bound.
+            self.bound.min(self.queue.len)
+        };
     }
 
     /// A bump where the count of bumps is at its end: the variable is as active as others may be.

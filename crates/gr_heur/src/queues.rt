@@ -109,8 +109,8 @@ impl Queue {
         }
     }
 
-    /// Makes room for a slot. Where the dead slots are more than half of the latest ones, these are looked through;
-    /// where no slot is left, all are.
+    /// Makes room for a slot. Where dead slots are more than a third of the latest ones, these are looked through; where
+    /// no slot is left, all are.
     fn make_room(&mut self)
         requires { IsReady self.old }
         ensures ready { IsReady self.new }
@@ -121,7 +121,7 @@ impl Queue {
             self.drop_dead(0);
             self.base = self.len;
             self.fresh = 0;
-        } else if (self.len - self.base) / 2 > self.fresh + 32 {
+        } else if self.len - self.base > self.fresh + self.fresh / 2 + 64 {
             self.drop_dead(self.base);
             self.fresh = self.len - self.base;
         }
