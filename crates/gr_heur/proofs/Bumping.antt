@@ -29,8 +29,11 @@ module _ {bumps : ℕ} {activities : List ℕ} {present : List Bool} {queue : Qu
         | inr v_not ↦ absurd (omega (arith, lt, active_other v v_not, active_at w w_is, stored.at_most v))
       ]
       | inr w_not ↦ elim (cases_eq v index) [
-        | inl v_is ↦ omega (arith, ap (slice_index next.places.items) v_is,
-            raises.last w (omega (arith, low', many)) w_not)
+        | inl v_is ↦ omega (
+          arith,
+          ap (slice_index next.places.items) v_is,
+          raises.last w (omega (arith, low', many)) w_not,
+        )
         | inr v_not ↦ raises.order w v (omega (arith, low', many)) (omega (arith, low, many)) w_not v_not
             (stored.ranked.more v w (omega (arith, low, many)) (omega (arith, low', many))
             (omega (arith, lt, active_other v v_not, active_other w w_not)))
@@ -74,8 +77,11 @@ module _ {bumps : ℕ} {activities : List ℕ} {present : List Bool} {queue : Qu
             elim (cases_eq v index) [
               | inl v_is ↦ omega (arith, below, here (ap (λ k. slice_index_or present k false) (sym v_is) ∙ is_in))
               | inr v_not ↦ others (slice_index next.places.items v)
-                  (omega (arith, raises.lower v (omega (arith, placed, many)) v_not,
-                    stored.below_bound v (omega (arith, low, long)) is_in))
+                  (omega (
+                    arith,
+                    raises.lower v (omega (arith, placed, many)) v_not,
+                    stored.below_bound v (omega (arith, low, long)) is_in,
+                  ))
                   below
             ];
       }

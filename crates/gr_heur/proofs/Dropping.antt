@@ -92,17 +92,17 @@ module _ {old : List ℕ} {from len : ℕ} {slots places : List ℕ} {at kept : 
       let behind = before.behind in
       elim (cases_eq a v) [
         | inl a_is ↦ (let place_a : slice_index places a ≡ at = ap (slice_index places) a_is ∙ stands_here in
-          let now_a : slice_index (set places v kept) a ≡ kept =
-              ap (slice_index (set places v kept)) a_is ∙ place_v in
-          elim (cases_eq b v) [
-            | inl b_is ↦ absurd (omega (arith, was, place_a, ap (slice_index places) b_is, stands_here))
-            | inr apart ↦ omega (arith, was, place_a, now_a, place_other b apart, behind)
-          ])
+            let now_a : slice_index (set places v kept) a ≡ kept =
+            ap (slice_index (set places v kept)) a_is ∙ place_v in
+            elim (cases_eq b v) [
+              | inl b_is ↦ absurd (omega (arith, was, place_a, ap (slice_index places) b_is, stands_here))
+              | inr apart ↦ omega (arith, was, place_a, now_a, place_other b apart, behind)
+            ])
         | inr a_apart ↦ elim (cases_eq b v) [
           | inl b_is ↦
               (let place_b : slice_index places b ≡ at = ap (slice_index places) b_is ∙ stands_here in
               let now_b : slice_index (set places v kept) b ≡ kept =
-                  ap (slice_index (set places v kept)) b_is ∙ place_v in
+              ap (slice_index (set places v kept)) b_is ∙ place_v in
               let kept_a = before_at a (omega (arith, low, as_many)) (omega (arith, was, place_b)) in
               omega (arith, now_b, place_other a a_apart, kept_a))
           | inr apart ↦ omega (arith, was, place_other a a_apart, place_other b apart)
@@ -113,8 +113,15 @@ module _ {old : List ℕ} {from len : ℕ} {slots places : List ℕ} {at kept : 
   moved_lower w low =
       let was = before.order.lower w low in
       elim (cases_eq w v) [
-        | inl here ↦ omega (arith, ap (slice_index (set places v kept)) here, ap (slice_index places) here, place_v,
-            stands_here, before.behind, was)
+        | inl here ↦ omega (
+          arith,
+          ap (slice_index (set places v kept)) here,
+          ap (slice_index places) here,
+          place_v,
+          stands_here,
+          before.behind,
+          was,
+        )
         | inr apart ↦ omega (arith, place_other w apart, was)
       ]
 
@@ -139,7 +146,7 @@ module _ {old : List ℕ} {from len : ℕ} {slots places : List ℕ} {at kept : 
         (let live = before.live k high (omega (arith, low, apart)) in
         let behind = before.behind in
         let other : slice_index slots k ≢ v =
-            (λ e. let here = ap (slice_index places) e in omega (arith, here, live, stands_here, low, apart, behind)) in
+        (λ e. let here = ap (slice_index places) e in omega (arith, here, live, stands_here, low, apart, behind)) in
         ap (slice_index (set places v kept)) (slot_other k apart)
         ∙ place_other (slice_index slots k) other ∙ live)
   ]
@@ -175,7 +182,7 @@ passed {old} {from} {len} {slots} {places} {at} {kept} before within dead = reco
   split = λ w low far.
       let split = before.split w low far in
       let not_here : slice_index places w ≢ at = (λ here. dead (ap (λ k. slice_index places (slice_index slots k))
-          (sym here) ∙ ap (slice_index places) (before.queue.stands w low) ∙ here)) in
+      (sym here) ∙ ap (slice_index places) (before.queue.stands w low) ∙ here)) in
       omega (arith, split, not_here);
   live = before.live;
 }
@@ -196,20 +203,20 @@ live_fit {old} {from} {len} {slots} {places} {at} {kept} now none =
     let short : kept ≤ length slots = omega (arith, now.behind, now.queue.short, now.at_most) in
     let many : length (take kept slots) ≡ kept = length-take-le kept slots short in
     let read = λ (k d : ℕ) (low : k < kept). get_or-take kept slots k d low
-        ∙ get_or_default slots k d 0 (omega (arith, low, short)) in
+    ∙ get_or_default slots k d 0 (omega (arith, low, short)) in
     let all : All (λ x. x < length places) (take kept slots) =
-        λ k d low. (let near : k < kept = omega (arith, low, many) in
-        omega (arith, read k d near, now.queue.known k (omega (arith, near, now.behind, now.at_most)))) in
+    λ k d low. (let near : k < kept = omega (arith, low, many) in
+    omega (arith, read k d near, now.queue.known k (omega (arith, near, now.behind, now.at_most)))) in
     let apart : (i j d : ℕ) → i < j → j < length (take kept slots)
-        → eqb (get_or (take kept slots) i d) (get_or (take kept slots) j d) ≡ false =
-        λ i j d lt low. (let near : j < kept = omega (arith, low, many) in
-        let near' : i < kept = omega (arith, lt, near) in
-        ne_eqb _ _ (λ (e : get_or (take kept slots) i d ≡ get_or (take kept slots) j d).
-          let same : slice_index slots i ≡ slice_index slots j = sym (read i d near') ∙ e ∙ read j d near in
-          let places_same = ap (slice_index places) same in
-          let live_i = now.live i (omega (arith, none)) near' in
-          let live_j = now.live j (omega (arith, none)) near in
-          omega (arith, places_same, live_i, live_j, lt))) in
+    → eqb (get_or (take kept slots) i d) (get_or (take kept slots) j d) ≡ false =
+    λ i j d lt low. (let near : j < kept = omega (arith, low, many) in
+    let near' : i < kept = omega (arith, lt, near) in
+    ne_eqb _ _ (λ (e : get_or (take kept slots) i d ≡ get_or (take kept slots) j d).
+    let same : slice_index slots i ≡ slice_index slots j = sym (read i d near') ∙ e ∙ read j d near in
+    let places_same = ap (slice_index places) same in
+    let live_i = now.live i (omega (arith, none)) near' in
+    let live_j = now.live j (omega (arith, none)) near in
+    omega (arith, places_same, live_i, live_j, lt))) in
     let fits = length-le_from_distinct_below (take kept slots) (length places)
-        (IsDistinct-from_apart eqb (take kept slots) apart) (all_below (length places) (take kept slots) all) in
+    (IsDistinct-from_apart eqb (take kept slots) apart) (all_below (length places) (take kept slots) all) in
     omega (arith, fits, many)

@@ -58,15 +58,23 @@ module _ {bumps : ℕ} {activities : List ℕ} {present : List Bool} {queue : Qu
     greatest = λ other is_in.
         let place = before (other - 1) is_in.1 in
         elim (cases_lt (slice_index activities index) (slice_index activities (other - 1))) [
-          | inl more ↦ absurd (omega (arith, place.1, stands_here,
-              stored.ranked.more (other - 1) index place.0 placed_here more))
+          | inl more ↦ absurd (omega (
+            arith,
+            place.1,
+            stands_here,
+            stored.ranked.more (other - 1) index place.0 placed_here more,
+          ))
           | inr as_much ↦ omega (arith, as_much, activity_here)
         ];
     least = λ other is_in same.
         let place = before (other - 1) is_in.1 in
         elim (cases_lt (other - 1) index) [
-          | inl less ↦ absurd (omega (arith, place.1, stands_here,
-              stored.ranked.tie (other - 1) index place.0 placed_here (omega (arith, same, activity_here)) less))
+          | inl less ↦ absurd (omega (
+            arith,
+            place.1,
+            stands_here,
+            stored.ranked.tie (other - 1) index place.0 placed_here (omega (arith, same, activity_here)) less,
+          ))
           | inr greater ↦ omega (arith, greater, is_in.0)
         ];
   }

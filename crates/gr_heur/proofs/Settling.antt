@@ -18,8 +18,11 @@ module _ {activities : List ℕ} {index : ℕ} {slots places : List ℕ} {len at
     (now : IsSettling activities index slots places len at) (known : index < length places) (some : 0 < at)
     (below : ℕ) (is : slice_index slots (at - 1) ≡ below) where
   known_below : below < length places
-  known_below = omega (arith, is,
-    now.queue.known (at - 1) (omega (arith, some, now.stands, now.queue.below index known)))
+  known_below = omega (
+    arith,
+    is,
+    now.queue.known (at - 1) (omega (arith, some, now.stands, now.queue.below index known)),
+  )
 
   at_slot : at < length slots
   at_slot = omega (arith, now.queue.short, now.stands, now.queue.below index known)
@@ -77,12 +80,17 @@ module _ {activities : List ℕ} {index : ℕ} {slots places : List ℕ} {len at
 
     not_there : (w : ℕ) → w < length places → slice_index places w ≢ at - 1
     not_there w low here = dead (ap (slice_index places)
-      (sym is ∙ ap (slice_index slots) (sym here) ∙ now.queue.stands w low) ∙ here)
+        (sym is ∙ ap (slice_index slots) (sym here) ∙ now.queue.stands w low) ∙ here)
 
     dead_below : (w : ℕ) → w < length places₁ → slice_index places₁ w < len
     dead_below w low = elim (cases_eq w index) [
-      | inl here ↦ omega (arith, ap (slice_index places₁) here, place_index, now.stands,
-          now.queue.below index known)
+      | inl here ↦ omega (
+        arith,
+        ap (slice_index places₁) here,
+        place_index,
+        now.stands,
+        now.queue.below index known,
+      )
       | inr apart ↦ omega (arith, place_other w apart, now.queue.below w (omega (arith, low, many)))
     ]
 
@@ -114,10 +122,18 @@ module _ {activities : List ℕ} {index : ℕ} {slots places : List ℕ} {len at
       };
       stands = place_index;
       others = record {
-        more = λ v w low low' apart apart' lt. omega (arith, place_other v apart, place_other w apart',
-          now.others.more v w (omega (arith, low, many)) (omega (arith, low', many)) apart apart' lt);
-        tie = λ v w low low' apart apart' same lt. omega (arith, place_other v apart, place_other w apart',
-          now.others.tie v w (omega (arith, low, many)) (omega (arith, low', many)) apart apart' same lt);
+        more = λ v w low low' apart apart' lt. omega (
+          arith,
+          place_other v apart,
+          place_other w apart',
+          now.others.more v w (omega (arith, low, many)) (omega (arith, low', many)) apart apart' lt,
+        );
+        tie = λ v w low low' apart apart' same lt. omega (
+          arith,
+          place_other v apart,
+          place_other w apart',
+          now.others.tie v w (omega (arith, low, many)) (omega (arith, low', many)) apart apart' same lt,
+        );
       };
       as_active = λ w low apart far.
           now.as_active w (omega (arith, low, many)) apart (dead_behind w low apart far);
@@ -148,11 +164,21 @@ module _ {activities : List ℕ} {index : ℕ} {slots places : List ℕ} {len at
 
     live_below : (w : ℕ) → w < length places₂ → slice_index places₂ w < len
     live_below w low = elim (cases_eq w index) [
-      | inl here ↦ omega (arith, ap (slice_index places₂) here, place_index', now.stands,
-          now.queue.below index known)
+      | inl here ↦ omega (
+        arith,
+        ap (slice_index places₂) here,
+        place_index',
+        now.stands,
+        now.queue.below index known,
+      )
       | inr apart ↦ elim (cases_eq w below) [
-        | inl here ↦ omega (arith, ap (slice_index places₂) here, place_below, now.stands,
-            now.queue.below index known)
+        | inl here ↦ omega (
+          arith,
+          ap (slice_index places₂) here,
+          place_below,
+          now.stands,
+          now.queue.below index known,
+        )
         | inr apart' ↦ omega (arith, place_other' w apart apart', now.queue.below w (omega (arith, low, many')))
       ]
     ]
@@ -178,14 +204,30 @@ module _ {activities : List ℕ} {index : ℕ} {slots places : List ℕ} {len at
     live_order v w low low' apart apart' lt = elim (cases_eq v below) [
       | inl v_is ↦ elim (cases_eq w below) [
         | inl w_is ↦ absurd (omega (arith, lt, ap (slice_index places) v_is, ap (slice_index places) w_is))
-        | inr w_not ↦ omega (arith, lt, ap (slice_index places) v_is, ap (slice_index places₂) v_is, live,
-            place_below, place_other' w apart' w_not)
+        | inr w_not ↦ omega (
+          arith,
+          lt,
+          ap (slice_index places) v_is,
+          ap (slice_index places₂) v_is,
+          live,
+          place_below,
+          place_other' w apart' w_not,
+        )
       ]
       | inr v_not ↦ elim (cases_eq w below) [
         | inl w_is ↦
             (let not_here = not_at v low apart in
-            omega (arith, lt, ap (slice_index places) w_is, ap (slice_index places₂) w_is, live, some,
-            place_below, place_other' v apart v_not, not_here))
+            omega (
+              arith,
+              lt,
+              ap (slice_index places) w_is,
+              ap (slice_index places₂) w_is,
+              live,
+              some,
+              place_below,
+              place_other' v apart v_not,
+              not_here,
+            ))
         | inr w_not ↦ omega (arith, lt, place_other' v apart v_not, place_other' w apart' w_not)
       ]
     ]

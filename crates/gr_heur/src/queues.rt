@@ -79,7 +79,7 @@ impl Queue {
         self.len += 1;
     }
 
-    /// Moves the last variable, which has the greatest activity, before those that are as active and of lesser number.
+    /// Moves the last variable, which is as active as any, before those that are as active and of lesser number.
     #[cold]
     pub(crate) fn settle(&mut self, index: usize, activities: &[u64])
         requires ready { IsReady self.old }
@@ -109,8 +109,8 @@ impl Queue {
         }
     }
 
-    /// Makes room for a slot. Where dead slots are more than a third of the latest ones, these are looked through; where
-    /// no slot is left, all are.
+    /// Makes room for a slot. Where dead slots are more than a third of the latest ones, these are looked through;
+    /// where no slot is left, all are.
     fn make_room(&mut self)
         requires { IsReady self.old }
         ensures ready { IsReady self.new }

@@ -30,7 +30,8 @@ loop-at-preserved c = elim c.if-index-at.branch [
   })
   | else-index-at w ↦ rw (w.self-is, w.kept-is) (record {
     dropping = passed c.loop-at.invariant.dropping c.loop-at-test.true
-        (λ e. w.if-index-at.false (sym (ap (slice_index c.loop-at.self.places.items) (variable_at c) ∙ place_at c) ∙ e));
+        (λ e. w.if-index-at.false
+        (sym (ap (slice_index c.loop-at.self.places.items) (variable_at c) ∙ place_at c) ∙ e));
     slots = c.loop-at.invariant.slots;
     base = c.loop-at.invariant.base;
   })

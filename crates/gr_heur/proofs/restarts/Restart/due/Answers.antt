@@ -19,5 +19,5 @@ overflow_mul-self-inside-then-held-eq-WINDOW c =
     let most = sum_by-le (λ x. x) 1000000 c.self.inside.window.items window.small in
     let sum_is = window.sum_is in
     let product =
-        mul-le (c.self.inside.window_sum * 8) c.self.inside.pushes 400000000 4000000 (omega arith) window.few in
+    mul-le (c.self.inside.window_sum * 8) c.self.inside.pushes 400000000 4000000 (omega arith) window.few in
     omega arith

@@ -21,13 +21,13 @@ invariant_of-self c =
     let lbd = c.args.lbd in
     let window = c.self.invariant in
     let now : c.push_back.new.self ≡ buffer (keep_last 50 (before ++ lbd ∷ [])) 50 =
-        rw window.capacity at c.push_back.ensures.items in
+    rw window.capacity at c.push_back.ensures.items in
     let items : c.push_back.new.self.items ≡ keep_last 50 (before ++ lbd ∷ []) = ap (λ b. b.items) now in
     let handed : c.push_back.result
-        ≡ (if nat_lt (length before) 50 then None else slice_get (before ++ lbd ∷ []) 0) =
-        rw window.capacity at c.push_back.ensures.value in
+    ≡ (if nat_lt (length before) 50 then None else slice_get (before ++ lbd ∷ []) 0) =
+    rw window.capacity at c.push_back.ensures.value in
     let out : c.unwrap_or-oldest.result ≡ pushed_out before lbd =
-        c.unwrap_or-oldest.ensures ∙ ap (λ r. unwrap_or r 0) handed in
+    c.unwrap_or-oldest.ensures ∙ ap (λ r. unwrap_or r 0) handed in
     let sums = slid before lbd window.short in
     let sum_is = window.sum_is in
     let few : c.self.inside.pushes < 4000000 = search (rules, c.requires.few, c.self.view_is) in
