@@ -1,4 +1,5 @@
 pub mod Sliding
+pub mod Membership
 pub mod Dropping
 pub mod Fresh
 pub mod Bumping

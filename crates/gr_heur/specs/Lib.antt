@@ -2,3 +2,4 @@ pub mod Orders
 pub mod Queues
 pub mod Stored
 pub mod Windows
+pub mod Laws
