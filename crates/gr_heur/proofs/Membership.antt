@@ -1,5 +1,5 @@
 -- who is in after one variable was put in or taken out
-use Rattle.std.proofs.Common.{◌≡◌, ◌≢◌, ◌↔◌, ℕ, ◌-◌, ◌<◌, ◌≤◌, Bool, true, false, List, length, set, sym, ◌∙◌, arith, get_or-set_same, get_or-set_other}
+use Rattle.std.proofs.Common.{◌≡◌, ◌≢◌, ◌↔◌, ℕ, ◌-◌, ◌≤◌, Bool, true, false, List, set, sym, ◌∙◌, arith, get_or-set_same, get_or-set_other}
 use Rattle.std.specs.Prelude.{slice_index_or, Some}
 use Rattle.std.proofs.lemmas.Bool.{false≢true}
 use Rattle.gr_heur.specs.Orders.{OrderState, IsOrder, IsIn, put_in, without}
@@ -9,10 +9,16 @@ others_stay : (present : List Bool) (var other : ℕ) (b : Bool) → 1 ≤ var �
     → ((1 ≤ other) × (slice_index_or (set present (var - 1) b) (other - 1) false ≡ true))
     ↔ ((1 ≤ other) × (slice_index_or present (other - 1) false ≡ true))
 others_stay present var other b some apart = (
-  λ now. (now.0, sym (get_or-set_other present (var - 1) (other - 1) b false
-      (let low = now.0 in omega (arith, low, some, apart))) ∙ now.1),
-  λ was. (was.0, get_or-set_other present (var - 1) (other - 1) b false
-      (let low = was.0 in omega (arith, low, some, apart)) ∙ was.1),
+  λ now. (
+    now.0,
+    sym (get_or-set_other present (var - 1) (other - 1) b false
+        (let low = now.0 in omega (arith, low, some, apart))) ∙ now.1,
+  ),
+  λ was. (
+    was.0,
+    get_or-set_other present (var - 1) (other - 1) b false
+        (let low = was.0 in omega (arith, low, some, apart)) ∙ was.1,
+  ),
 )
 
 pub put_is_in : (s : OrderState) (var : ℕ) → IsOrder s → 1 ≤ var → var ≤ s.vars → IsIn (put_in s var) var

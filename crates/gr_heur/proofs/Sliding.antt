@@ -1,6 +1,6 @@
 -- a window of 50 and its sum, after a push
-use Rattle.std.proofs.Common.{◌≡◌, ◌≤◌, ◌<◌, ◌+◌, ◌-◌, ◌++◌, ◌∷◌, [], ℕ, List, length, drop, sum, inl, inr, arith}
-use Rattle.std.specs.Prelude.{slice_get, Some, None, unwrap_or, if◌then◌else◌, nat_lt}
+use Rattle.std.proofs.Common.{◌≡◌, ◌≤◌, ◌<◌, ◌+◌, ◌-◌, ◌++◌, ◌∷◌, [], ℕ, List, length, sum, inl, inr, arith}
+use Rattle.std.specs.Prelude.{slice_get, None, unwrap_or, if◌then◌else◌, nat_lt}
 use Rattle.std.specs.List.{All}
 use Rattle.std.proofs.lemmas.Bool.{cases_lt, lt-ltb, le-ltb}
 use Rattle.std.proofs.lemmas.List.Elements.{All-push, All-drop}

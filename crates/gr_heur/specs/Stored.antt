@@ -1,5 +1,5 @@
 -- what an order keeps of its columns
-use Rattle.std.specs.Prelude.{◌≡◌, ℕ, ◌+◌, ◌<◌, ◌≤◌, Bool, true, false, List, length, slice_index, slice_index_or}
+use Rattle.std.specs.Prelude.{◌≡◌, ℕ, ◌<◌, ◌≤◌, Bool, true, false, List, length, slice_index, slice_index_or}
 use Rattle.gr_heur.specs.declared.queues.Queue.{Queue}
 use Rattle.gr_heur.specs.Queues.{IsReady, IsRanked}
 

@@ -1,8 +1,8 @@
 -- what stands last among those that are in is picked
-use Rattle.std.proofs.Common.{◌≡◌, ◌+◌, ◌<◌, length, ap, sym, ◌∙◌, arith, subst}
+use Rattle.std.proofs.Common.{◌≡◌, ◌+◌, sym, arith, subst}
 use Rattle.std.specs.Prelude.{slice_index}
 use Rattle.std.proofs.lemmas.List.{get_or_read}
-use Rattle.gr_heur.specs.Orders.{OrderState, IsIn, IsPicked}
+use Rattle.gr_heur.specs.Orders.{IsIn, IsPicked}
 use Rattle.gr_heur.specs.Queues.{IsLastIn}
 use Rattle.gr_heur.proofs.Picking.{is_here, picked}
 use Rattle.gr_heur.proofs.orders.Order.pick.Goals as goal

@@ -1,5 +1,5 @@
 -- a live slot is moved, a dead one passed over
-use Rattle.std.proofs.Common.{◌≡◌, ◌≢◌, ◌∙◌, ap, sym, arith, length-set}
+use Rattle.std.proofs.Common.{◌≡◌, ◌∙◌, ap, sym, arith, length-set}
 use Rattle.std.specs.Prelude.{slice_index}
 use Rattle.std.proofs.lemmas.List.{get_or_read}
 use Rattle.gr_heur.proofs.Dropping.{moved, passed, live_fit}

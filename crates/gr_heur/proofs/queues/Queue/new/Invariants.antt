@@ -1,6 +1,4 @@
 -- the variables so far stand from the last slot down
-use Rattle.std.proofs.Common.{◌≡◌, ℕ, ◌+◌, ◌*◌, ◌-◌, ◌<◌, length}
-use Rattle.std.specs.Prelude.{slice_index}
 use Rattle.gr_heur.proofs.Fresh.{IsFilled}
 use Rattle.gr_heur.proofs.queues.Queue.new.Given as goal
 
