@@ -1,0 +1,60 @@
+//! Seats that take turns at a lock, to be timed from outside beside a ticket lock in C.
+//!
+//! Words: `THREADS TURNS WORK`. So many seats, each in a thread of its own, take so many turns each, with so
+//! many steps of arithmetic between two turns. Each turn makes an entry. How many entries the history then
+//! has is printed, and how many turns made one.
+#![tactic(auto)]
+
+mod crowds;
+mod guests;
+mod tallies;
+
+use crate::crowds::{Counts, crowd};
+use gr_logic::OutOfMemory;
+use std::process::ExitCode;
+use std::{env, io};
+
+/// Why there is no count.
+#[derive(Clone, Copy, Debug)]
+enum Stop {
+    Usage,
+    OutOfMemory,
+}
+
+impl From<OutOfMemory> for Stop {
+    fn from(_wanting: OutOfMemory) -> Stop {
+        Stop::OutOfMemory
+    }
+}
+
+fn main(rt: HostRuntime) -> io::Result<ExitCode> {
+    let args = env::args(&rt)?.collect::<Vec<String>>(rt.alloc())?;
+    match run(rt, &args) {
+        Ok(counts) => {
+            println!(rt; "{} entries, {} turns", counts.entries, counts.turns)?;
+            Ok(ExitCode::SUCCESS)
+        }
+        Err(Stop::Usage) => Ok(ExitCode::from(2)),
+        Err(Stop::OutOfMemory) => Ok(ExitCode::from(6)),
+    }
+}
+
+/// Runs what the words say.
+fn run(rt: HostRuntime, args: &[String]) -> Result<Counts, Stop> {
+    let [_name, threads, turns, work] = args else {
+        return Err(Stop::Usage);
+    };
+    let threads = number_of(threads)?;
+    if threads > 1000 {
+        return Err(Stop::Usage);
+    }
+    Ok(crowd(&rt, rt.alloc(), threads, number_of(turns)?, number_of(work)?)?)
+}
+
+/// The number that a word spells.
+fn number_of(word: &String) -> Result<u32, Stop> {
+    match word.as_str().parse::<u32>() {
+        Ok(number) => Ok(number),
+        Err(_) => Err(Stop::Usage),
+    }
+}
