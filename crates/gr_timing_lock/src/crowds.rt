@@ -3,7 +3,8 @@ ghost use Rattle.std.specs.Prelude.{◌≡◌, ◌≤◌, ◌+◌, [], All, IfOk
 ghost use Rattle.gr_turn.specs.Seats.{IsAway};
 ghost use Rattle.gr_timing_lock.specs.Crowds.{IsAt, IsFresh};
 
-use crate::guests::{Guest, take_turns};
+use crate::guests::Guest;
+use crate::spells::take_turns;
 use crate::tallies::Tally;
 use gr_logic::OutOfMemory;
 use gr_turn::{Keeps, Opened, Seat, Turn};

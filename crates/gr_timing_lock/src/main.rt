@@ -7,11 +7,15 @@
 
 mod crowds;
 mod guests;
+mod spells;
 mod tallies;
 
 use crate::crowds::{Counts, crowd};
 use gr_logic::OutOfMemory;
+use std::alloc::Global;
 use std::process::ExitCode;
+use std::sync::Wait;
+use std::thread::Threads;
 use std::{env, io};
 
 /// Why there is no count.
@@ -29,7 +33,7 @@ impl From<OutOfMemory> for Stop {
 
 fn main(rt: HostRuntime) -> io::Result<ExitCode> {
     let args = env::args(&rt)?.collect::<Vec<String>>(rt.alloc())?;
-    match run(rt, &args) {
+    match run(&rt, rt.alloc(), &args) {
         Ok(counts) => {
             println!(rt; "{} entries, {} turns", counts.entries, counts.turns)?;
             Ok(ExitCode::SUCCESS)
@@ -40,7 +44,7 @@ fn main(rt: HostRuntime) -> io::Result<ExitCode> {
 }
 
 /// Runs what the words say.
-fn run(rt: HostRuntime, args: &[String]) -> Result<Counts, Stop> {
+fn run<R: Threads + Wait + Sync>(rt: &R, alloc: Global, args: &[String]) -> Result<Counts, Stop> {
     let [_name, threads, turns, work] = args else {
         return Err(Stop::Usage);
     };
@@ -48,7 +52,9 @@ fn run(rt: HostRuntime, args: &[String]) -> Result<Counts, Stop> {
     if threads > 1000 {
         return Err(Stop::Usage);
     }
-    Ok(crowd(&rt, rt.alloc(), threads, number_of(turns)?, number_of(work)?)?)
+    let turns = number_of(turns)?;
+    let work = number_of(work)?;
+    Ok(crowd(rt, alloc, threads, turns, work)?)
 }
 
 /// The number that a word spells.
