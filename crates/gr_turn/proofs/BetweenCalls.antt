@@ -37,7 +37,8 @@ module _ {T E F : Type 0} (number : E → ℕ) where
   pub taken_in : (v w : View E F) (c : List (ℕ × Option T)) (m m' : Place T E F)
       → m ≡ (joined v w, c) → v.live ≡ true → by number v.seen v.number ≡ v.own
       → c ≡ hand_of v.stage → v.stage ≡ Away → Stays number m m'
-      → IsFit number m' × (m' ≡ (joined v w, c)) × (v.splits ≡ (joined v w).out + (joined v w).joined)
+      → IsFit number m' × (m' ≡ (joined v w, c))
+      × (v.splits ≡ (joined v w).out + (joined v w).joined)
       × IsPrefix v.seen (longer v.seen w.seen) × IsPrefix w.seen (longer v.seen w.seen)
   taken_in v w c m m' is live own hand away g =
       let same : m' ≡ (joined v w, c) = g.0 ∙ is in
@@ -46,7 +47,8 @@ module _ {T E F : Type 0} (number : E → ℕ) where
       subst (λ (z : Place T E F). IsPrefix z.0.seen h) is g.2 in
       let left : IsPrefix v.seen h = subst (λ (z : Place T E F). IsPrefix z.0.left h) is g.3 in
       let right : IsPrefix w.seen h = subst (λ (z : Place T E F). IsPrefix z.0.right h) is g.4 in
-      let told : (by number h v.number ≡ v.own) × (v.splits ≡ (joined v w).out + (joined v w).joined) =
+      let told : (by number h v.number ≡ v.own)
+      × (v.splits ≡ (joined v w).out + (joined v w).joined) =
       subst (λ (z : Place T E F).
       (by number h z.0.number ≡ z.0.own) × (z.0.splits ≡ z.0.out + z.0.joined)) is
       (g.5 (ap (λ (z : Place T E F). z.0.live) is ∙ live)) in

@@ -22,13 +22,7 @@ module _ {T E F : Type 0} (history : T → List E) (number : E → ℕ) (fixed :
   abbrev V : Type 0
   V = View E F
 
-  abbrev St : Type 0
-  St = State (Option T) V
-
-  abbrev Homes : Type 0
-  Homes = List (maybe.Option (Option T))
-
-  abbrev Rule : St → Type 0
+  abbrev Rule : State (Option T) V → Type 0
   Rule = Kept history number fixed
 
   -- the table of a new lock
@@ -87,7 +81,7 @@ module _ {T E F : Type 0} (history : T → List E) (number : E → ℕ) (fixed :
       total_set waits_in s.views id v w at in
       let q = r.queue in
       let old : (i : ℕ) (a : V) → get_elem? (vs ++ u ∷ []) i ≡ some a → in_line a.stage ≡ true
-          → get_elem? s.views i ≡ some a =
+      → get_elem? s.views i ≡ some a =
       each_end (λ i a. in_line a.stage ≡ true → get_elem? s.views i ≡ some a) vs u
       (λ e. absurd (cc e))
       (each_set (λ i a. in_line a.stage ≡ true → get_elem? s.views i ≡ some a) s.views id w
@@ -99,7 +93,8 @@ module _ {T E F : Type 0} (history : T → List E) (number : E → ℕ) (fixed :
         drawn = r.drawn;
         words = r.words;
         home = ⊎_elim inl
-            (λ (t : (length s.homes ≡ 1) × (i : ℕ) × (y : V) × (get_elem? vs i ≡ some y) × (in_turn y.stage ≡ true)).
+            (λ (t : (length s.homes ≡ 1) × (i : ℕ) × (y : V) × (get_elem? vs i ≡ some y)
+            × (in_turn y.stage ≡ true)).
             inr (t.0, t.1, t.2, at_longer vs (u ∷ []) t.1 t.2 t.3, t.4))
             (home_stays history number fixed r.h r.part s.homes s.views id v w at (λ t. t) r.home);
         each = each_end (Fits number r.h r.part r.served r.drawn) vs u
@@ -183,7 +178,7 @@ module _ {T E F : Type 0} (history : T → List E) (number : E → ℕ) (fixed :
       let sums = known.3 in
       let q = r.queue in
       let old : (i : ℕ) (a : V) → get_elem? us i ≡ some a → in_line a.stage ≡ true
-          → get_elem? s.views i ≡ some a =
+      → get_elem? s.views i ≡ some a =
       each_set (λ i a. in_line a.stage ≡ true → get_elem? s.views i ≡ some a) vs other gone
       (λ e. absurd (cc e))
       (λ j b _. each_set (λ i a. in_line a.stage ≡ true → get_elem? s.views i ≡ some a)
@@ -242,7 +237,7 @@ module _ {T E F : Type 0} (history : T → List E) (number : E → ℕ) (fixed :
       → (x : T) × (get_elem? slots 0 ≡ some (Some x)) × IsPrefix v.seen (history x)
       × (by number (history x) v.number ≡ v.own) × (Some (fixed x) ≡ v.fixed)
   closes id v words slots live at_zero away alone last =
-      let s : St = last.0 in
+      let s : State (Option T) V = last.0 in
       let r : Rule s = last.1.0 in
       let at : get_elem? s.views id ≡ some v = last.1.1 in
       let me = r.each id v at in
@@ -256,12 +251,13 @@ module _ {T E F : Type 0} (history : T → List E) (number : E → ℕ) (fixed :
       ⊎_elim
       (λ (t : (x : T) × (s.homes ≡ some (Some x) ∷ []) × (history x ≡ r.h) × (fixed x ≡ r.part)). (
         t.0,
-        last.4 0 (Some t.0) (ap (λ (hs : Homes). get_elem? hs 0) t.1),
+        last.4 0 (Some t.0) (ap (λ (hs : List (maybe.Option (Option T))). get_elem? hs 0) t.1),
         subst (IsPrefix v.seen) (sym t.2) me.seen,
         ap (λ (h : List E). by number h v.number) t.2 ∙ (ap (by number r.h) known.0 ∙ known.2),
         ap (λ (y : F). let z : Option F = Some y in z) t.3 ∙ sym known.1,
       ))
-      (λ (t : (length s.homes ≡ 1) × (i : ℕ) × (u : V) × (get_elem? s.views i ≡ some u) × (in_turn u.stage ≡ true)).
+      (λ (t : (length s.homes ≡ 1) × (i : ℕ) × (u : V) × (get_elem? s.views i ≡ some u)
+      × (in_turn u.stage ≡ true)).
       absurd (⊎_elim
       (λ (dead : t.2.live ≡ false).
       cc (sym t.4 ∙ ap in_turn ((r.each t.1 t.2 t.3).spent dead)))

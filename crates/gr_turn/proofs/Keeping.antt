@@ -69,8 +69,10 @@ module _ {T E F : Type 0} (history : T → List E) (number : E → ℕ) (fixed :
       → Homed history number fixed h part homes (set vs id w)
   home_stays h part homes vs id v w at turn home =
       ⊎_elim inl
-      (λ (t : (length homes ≡ 1) × (i : ℕ) × (u : V) × (get_elem? vs i ≡ some u) × (in_turn u.stage ≡ true)).
-      let there : (i : ℕ) × (u : V) × (get_elem? (set vs id w) i ≡ some u) × (in_turn u.stage ≡ true) =
+      (λ (t : (length homes ≡ 1) × (i : ℕ) × (u : V) × (get_elem? vs i ≡ some u)
+      × (in_turn u.stage ≡ true)).
+      let there : (i : ℕ) × (u : V) × (get_elem? (set vs id w) i ≡ some u)
+      × (in_turn u.stage ≡ true) =
       dite (ℕ_discrete t.1 id)
       (λ e.
       let is : t.2 ≡ v = some-injective t.2 v (sym t.3 ∙ (ap (get_elem? vs) e ∙ at)) in (
@@ -102,51 +104,54 @@ module _ {T E F : Type 0} (history : T → List E) (number : E → ℕ) (fixed :
       → Homed history number fixed h r.part homes (set s.views id w)
       → Fits number h r.part served drawn id w
       → ((j : ℕ) (u : V) → j ≢ id → get_elem? s.views j ≡ some u
-          → Fits number h r.part served drawn j u)
+      → Fits number h r.part served drawn j u)
       → (in_line w.stage ≡ true → (j : ℕ) (u : V) → j ≢ id → get_elem? s.views j ≡ some u
-          → in_line u.stage ≡ true → ticket_of w.stage ≢ ticket_of u.stage)
+      → in_line u.stage ≡ true → ticket_of w.stage ≢ ticket_of u.stage)
       → drawn + waits_in v + r.served ≡ r.drawn + served + waits_in w
       → ((n : ℕ) → length s.views ≤ n → by number h n ≡ [])
       → Rule record { words = words; homes = homes; views = set s.views id w }
-  moves s r id v w at l sp o h served drawn words homes is home mine others apart queue unborn = record {
-    h = h;
-    part = r.part;
-    served = served;
-    drawn = drawn;
-    words = is;
-    home = home;
-    each = λ i u p. ⊎_elim
-        (λ (t : (i ≡ id) × (w ≡ u)).
-        subst (λ (z : ℕ × V). Fits number h r.part served drawn z.0 z.1)
-        (λ k. (sym t.0 k, t.1 k)) mine)
-        (λ (t : (i ≢ id) × (get_elem? s.views i ≡ some u)). others i u t.0 t.1)
-        (at_set s.views id i w u p);
-    apart = λ i j a b p q la lb same. ⊎_elim
-        (λ (t : (i ≡ id) × (w ≡ a)). ⊎_elim
-        (λ (t' : (j ≡ id) × (w ≡ b)). t.0 ∙ sym t'.0)
-        (λ (t' : (j ≢ id) × (get_elem? s.views j ≡ some b)).
-        absurd (apart (ap (λ (u : V). in_line u.stage) t.1 ∙ la) j b t'.0 t'.1 lb
-        (ap (λ (u : V). ticket_of u.stage) t.1 ∙ same)))
-        (at_set s.views id j w b q))
-        (λ (t : (i ≢ id) × (get_elem? s.views i ≡ some a)). ⊎_elim
-        (λ (t' : (j ≡ id) × (w ≡ b)).
-        absurd (apart (ap (λ (u : V). in_line u.stage) t'.1 ∙ lb) i a t.0 t.1 la
-        (ap (λ (u : V). ticket_of u.stage) t'.1 ∙ sym same)))
-        (λ (t' : (j ≢ id) × (get_elem? s.views j ≡ some b)).
-        r.apart i j a b t.1 t'.1 la lb same)
-        (at_set s.views id j w b q))
-        (at_set s.views id i w a p);
-    queue =
-        let tot : total waits_in (set s.views id w) + waits_in v ≡ total waits_in s.views + waits_in w =
-        total_set waits_in s.views id v w at in
-        let was = r.queue in omega arith;
-    first = heads_stay s.views id v w at l sp o r.first;
-    others = λ n le. unborn n (subst (λ (k : ℕ). k ≤ n) (length-set s.views id w) le);
-  }
+  moves s r id v w at l sp o h served drawn words homes is home mine others apart queue unborn =
+      record {
+        h = h;
+        part = r.part;
+        served = served;
+        drawn = drawn;
+        words = is;
+        home = home;
+        each = λ i u p. ⊎_elim
+            (λ (t : (i ≡ id) × (w ≡ u)).
+            subst (λ (z : ℕ × V). Fits number h r.part served drawn z.0 z.1)
+            (λ k. (sym t.0 k, t.1 k)) mine)
+            (λ (t : (i ≢ id) × (get_elem? s.views i ≡ some u)). others i u t.0 t.1)
+            (at_set s.views id i w u p);
+        apart = λ i j a b p q la lb same. ⊎_elim
+            (λ (t : (i ≡ id) × (w ≡ a)). ⊎_elim
+            (λ (t' : (j ≡ id) × (w ≡ b)). t.0 ∙ sym t'.0)
+            (λ (t' : (j ≢ id) × (get_elem? s.views j ≡ some b)).
+            absurd (apart (ap (λ (u : V). in_line u.stage) t.1 ∙ la) j b t'.0 t'.1 lb
+            (ap (λ (u : V). ticket_of u.stage) t.1 ∙ same)))
+            (at_set s.views id j w b q))
+            (λ (t : (i ≢ id) × (get_elem? s.views i ≡ some a)). ⊎_elim
+            (λ (t' : (j ≡ id) × (w ≡ b)).
+            absurd (apart (ap (λ (u : V). in_line u.stage) t'.1 ∙ lb) i a t.0 t.1 la
+            (ap (λ (u : V). ticket_of u.stage) t'.1 ∙ sym same)))
+            (λ (t' : (j ≢ id) × (get_elem? s.views j ≡ some b)).
+            r.apart i j a b t.1 t'.1 la lb same)
+            (at_set s.views id j w b q))
+            (at_set s.views id i w a p);
+        queue =
+            let tot : total waits_in (set s.views id w) + waits_in v
+            ≡ total waits_in s.views + waits_in w =
+            total_set waits_in s.views id v w at in
+            let was = r.queue in omega arith;
+        first = heads_stay s.views id v w at l sp o r.first;
+        others = λ n le. unborn n (subst (λ (k : ℕ). k ≤ n) (length-set s.views id w) le);
+      }
 
   -- a load after which the seat's view is as before
-  pub unmoved : (s : St) (i id : ℕ) (v : V) (c : List (ℕ × Option T)) → get_elem? s.views id ≡ some v
-      → Rule s → Rule (stepped s i (get_or s.words i 0) id c v keeps)
+  pub unmoved : (s : St) (i id : ℕ) (v : V) (c : List (ℕ × Option T))
+      → get_elem? s.views id ≡ some v → Rule s
+      → Rule (stepped s i (get_or s.words i 0) id c v keeps)
   unmoved s i id v c at r =
       subst Rule
       (λ k. record {

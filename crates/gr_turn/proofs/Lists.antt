@@ -21,7 +21,8 @@ pub prefix_nil : {A : Type 0} (xs : List A) → IsPrefix [] xs
 prefix_nil xs = (xs, refl)
 
 -- a beginning of a beginning is a beginning
-pub prefix_trans : {A : Type 0} (xs ys zs : List A) → IsPrefix xs ys → IsPrefix ys zs → IsPrefix xs zs
+pub prefix_trans : {A : Type 0} (xs ys zs : List A) → IsPrefix xs ys → IsPrefix ys zs
+    → IsPrefix xs zs
 prefix_trans xs ys zs p q =
     (p.0 ++ q.0, sym (append_assoc xs p.0 q.0) ∙ (ap (λ w. w ++ q.0) p.1 ∙ q.1))
 
@@ -64,7 +65,7 @@ pub by_other : {E : Type 0} (number : E → ℕ) (h : List E) (e : E) (n : ℕ) 
 by_other number h e n ne =
     by-append number h (e ∷ []) n
     ∙ (ap (λ b. by number h n ++ cond b (e ∷ []) []) (ne_eqb (number e) n ne)
-      ∙ append-nil (by number h n))
+    ∙ append-nil (by number h n))
 
 -- behind an entry of this number they are one more
 pub by_this : {E : Type 0} (number : E → ℕ) (h : List E) (e : E) (n : ℕ) → number e ≡ n

@@ -82,8 +82,8 @@ module _ {E : Type 0} where
   line_longer served drawn h (Waits k) l = let a = l.0 in let b = l.1 in (omega arith, omega arith)
   line_longer served drawn h (Holds k g) l = let b = l.1 in (l.0, omega arith, l.2)
 
-  -- for a seat with another ticket than the one served, the history may become another, and the next
-  -- ticket may be served
+  -- for a seat with another ticket than the one served, the history may become another, and the
+  -- next ticket may be served
   pub line_else : (served served' drawn : ℕ) (h h' : List E) (st : Stage E) → served ≤ served'
       → served' ≤ served + 1 → (in_line st ≡ true → ticket_of st ≢ served)
       → InLine served drawn h st → InLine served' drawn h' st

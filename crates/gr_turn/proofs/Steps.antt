@@ -71,8 +71,8 @@ module _ {T E F : Type 0} (history : T → List E) (number : E → ℕ) (fixed :
         moves history number fixed s r id v w at refl refl refl r.h r.served (r.drawn + 1)
             (set s.words 0 ((get_or s.words 0 0 + 1) % 2 ^ 64)) s.homes
             (ap (λ (ws : List ℕ). set ws 0 ((get_or ws 0 0 + 1) % 2 ^ 64)) r.words
-              ∙ ap (λ (k : ℕ). k ∷ r.served % 2 ^ 64 ∷ length r.h ∷ [])
-              (mod-add-mod r.drawn (2 ^ 64) 1))
+            ∙ ap (λ (k : ℕ). k ∷ r.served % 2 ^ 64 ∷ length r.h ∷ [])
+            (mod-add-mod r.drawn (2 ^ 64) 1))
             (home_stays history number fixed r.h r.part s.homes s.views id v w at
             (λ t. absurd (cc (t, ap in_turn away))) r.home)
             record {
@@ -172,11 +172,12 @@ module _ {T E F : Type 0} (history : T → List E) (number : E → ℕ) (fixed :
           λ miss. absurd (miss hit),
         ),
       ))
-      (λ (t : (length s.homes ≡ 1) × (i : ℕ) × (u : V) × (get_elem? s.views i ≡ some u) × (in_turn u.stage ≡ true)).
+      (λ (t : (length s.homes ≡ 1) × (i : ℕ) × (u : V) × (get_elem? s.views i ≡ some u)
+      × (in_turn u.stage ≡ true)).
       let same : t.1 ≡ id =
       r.apart t.1 id t.2 v t.3 at (turn_line t.2.stage t.4) line
       (turn_ticket r.served r.drawn r.h t.2.stage t.4 (r.each t.1 t.2 t.3).stage
-        ∙ (mine ∙ sym tick)) in
+      ∙ (mine ∙ sym tick)) in
       let is : t.2 ≡ v =
       some-injective t.2 v (sym t.3 ∙ (ap (get_elem? s.views) same ∙ at)) in
       absurd (cc (sym t.4 ∙ (ap (λ (u : V). in_turn u.stage) is ∙ ap in_turn waits))))
@@ -216,7 +217,7 @@ module _ {T E F : Type 0} (history : T → List E) (number : E → ℕ) (fixed :
       let named : number e ≡ id = names ∙ known.0 in
       let other : (n : ℕ) → n ≢ id → by number h n ≡ by number r.h n =
       λ n ne. ap (λ (ys : List E). by number ys n) is
-          ∙ by_other number r.h e n (λ z. ne (sym z ∙ named)) in
+      ∙ by_other number r.h e n (λ z. ne (sym z ∙ named)) in
       let served : ticket_of v.stage ≡ r.served = tick ∙ l.0 in
       let note : noted v.stage ≡ r.h = ap noted holds ∙ l.2 in (
         w,
@@ -225,9 +226,9 @@ module _ {T E F : Type 0} (history : T → List E) (number : E → ℕ) (fixed :
         moves history number fixed s r id v w at refl refl refl h r.served r.drawn
             (set s.words 2 ((get_or s.words 2 0 + 1) % 2 ^ 64)) s.homes
             (ap (λ (ws : List ℕ). set ws 2 ((get_or ws 2 0 + 1) % 2 ^ 64)) r.words
-              ∙ ap (λ (n : ℕ). r.drawn % 2 ^ 64 ∷ r.served % 2 ^ 64 ∷ n ∷ [])
-              (ap (λ (n : ℕ). n % 2 ^ 64) (sym long)
-                ∙ mod-eq_of_lt (subst (λ (ys : List E). length ys < 2 ^ 64) (sym same) short)))
+            ∙ ap (λ (n : ℕ). r.drawn % 2 ^ 64 ∷ r.served % 2 ^ 64 ∷ n ∷ [])
+            (ap (λ (n : ℕ). n % 2 ^ 64) (sym long)
+            ∙ mod-eq_of_lt (subst (λ (ys : List E). length ys < 2 ^ 64) (sym same) short)))
             (inr (deep', id, w, set_here s.views id w (at_lt s.views id v at), refl))
             record {
               seen = prefix_self h;
@@ -267,17 +268,17 @@ module _ {T E F : Type 0} (history : T → List E) (number : E → ℕ) (fixed :
       → Some (fixed x) ≡ m.0.fixed
       → Allows Rule slots id m 1 (λ n. (n + 1) % 2 ^ 64) (passed number (step slots 1 1 0 none) m)
   passes slots id m k g x holds live one_slot carried same_history same_fixed s r deep at fits =
-      let deep' : length s.homes ≡ 1 = deep ∙ one_slot in
       let v : V = m.0 in
       let me = r.each id v at in
       let known = me.live live in
       let tick : ticket_of v.stage ≡ k = ap ticket_of holds in
-      let line : in_line v.stage ≡ true = ap in_line holds in
       let l : InLine r.served r.drawn r.h (Holds k g) =
       subst (InLine r.served r.drawn r.h) holds me.stage in
       let note : noted v.stage ≡ r.h = ap noted holds ∙ l.2 in
+      let line : in_line v.stage ≡ true = ap in_line holds in
       let served : ticket_of v.stage ≡ r.served = tick ∙ l.0 in
       let w : V = record v { stage = Away; seen = noted v.stage; turns = v.turns + 1 } in
+      let deep' : length s.homes ≡ 1 = deep ∙ one_slot in
       let q = r.queue in (
         w,
         gives,
@@ -285,8 +286,8 @@ module _ {T E F : Type 0} (history : T → List E) (number : E → ℕ) (fixed :
         moves history number fixed s r id v w at refl refl refl r.h (r.served + 1) r.drawn
             (set s.words 1 ((get_or s.words 1 0 + 1) % 2 ^ 64)) (put_back s.homes m.1)
             (ap (λ (ws : List ℕ). set ws 1 ((get_or ws 1 0 + 1) % 2 ^ 64)) r.words
-              ∙ ap (λ (n : ℕ). r.drawn % 2 ^ 64 ∷ n ∷ length r.h ∷ [])
-              (mod-add-mod r.served (2 ^ 64) 1))
+            ∙ ap (λ (n : ℕ). r.drawn % 2 ^ 64 ∷ n ∷ length r.h ∷ [])
+            (mod-add-mod r.served (2 ^ 64) 1))
             (inl (
               x,
               ap (put_back s.homes) carried ∙ one_home s.homes (some (Some x)) deep',

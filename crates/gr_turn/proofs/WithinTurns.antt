@@ -12,9 +12,9 @@ use Rattle.gr_turn.specs.Views.{by, ticket_of, noted, hand_of}
 use Rattle.gr_turn.specs.Seats.{Sitting, sitting_of, IsFit}
 use Rattle.gr_turn.specs.Turns.{Grows}
 use Rattle.gr_turn.specs.Queues.{Kept}
-use Rattle.gr_turn.specs.Told.{Place, held_history, Drawn, Took, Counted, Passed, counted, passed}
+use Rattle.gr_turn.specs.Told.{Place, Drawn, Took, Passed, counted, passed}
 use Rattle.gr_turn.specs.Midway.{HasTicket, IsServed, IsHolding, IsReady}
-use Rattle.gr_turn.proofs.Lists.{prefix_trans, by_this}
+use Rattle.gr_turn.proofs.Lists.{prefix_trans}
 use Rattle.gr_turn.proofs.Places.{turn_holds}
 use Rattle.gr_turn.proofs.Steps.{counts, passes}
 use Rattle.gr_turn.proofs.BetweenCalls.{is_away}
@@ -96,8 +96,10 @@ module _ {T E F : Type 0} (history : T → List E) (number : E → ℕ) (fixed :
       d.0 ∙ (fit.in_hand ∙ ap (λ (st : Stage E). hand_of {T = T} st) away) in
       let now : m3 ≡ (record m.0 { stage = Holds served.ticket (history x) }, (0, None) ∷ []) =
       wrote ∙ (ap (λ (w : Place T E F). let k : Place T E F = (w.0, (0, None) ∷ rest w.1) in k)
-      served.place ∙ (λ i. (record (d.3 i) { stage = Holds served.ticket (history (value i)) },
-      (0, None) ∷ bare i))) in record {
+      served.place ∙ (λ i. (
+        record (d.3 i) { stage = Holds served.ticket (history (value i)) },
+        (0, None) ∷ bare i,
+      ))) in record {
         fit = subst (IsFit number) (sym now) record {
           live = fit.live;
           own_is = fit.own_is;
@@ -158,11 +160,14 @@ module _ {T E F : Type 0} (history : T → List E) (number : E → ℕ) (fixed :
       (passed number (step slots 1 1 0 none) m')
   passes_back slots id m m' x grown live ready one_slot part =
       let at : (A : Type 0) (f : Place T E F → A)
-          → f m' ≡ f (record m.0 {
-            stage = Holds (ticket_of m.0.stage) (history x);
-            seen = m'.0.seen;
-            own = m'.0.own;
-          }, (0, Some x) ∷ []) = λ A f. ap f ready.place in
+      → f m' ≡ f (
+        record m.0 {
+          stage = Holds (ticket_of m.0.stage) (history x);
+          seen = m'.0.seen;
+          own = m'.0.own;
+        },
+        (0, Some x) ∷ [],
+      ) = λ A f. ap f ready.place in
       passes history number fixed slots id m' (ticket_of m.0.stage) (history x) x
       (at (Stage E) (λ z. z.0.stage)) (at Bool (λ z. z.0.live) ∙ live) one_slot
       (at (List (ℕ × Option T)) (λ z. z.1)) refl (part ∙ sym (at (Option F) (λ z. z.0.fixed)))
@@ -174,6 +179,6 @@ module _ {T E F : Type 0} (history : T → List E) (number : E → ℕ) (fixed :
   passed_on m m' m2 x grown ready p =
       let seen : m2.0.seen ≡ noted m'.0.stage = ap (λ (v : View E F). v.seen) p.1 in (
         subst (IsPrefix m.0.seen) (sym seen)
-        (prefix_trans m.0.seen m'.0.seen (noted m'.0.stage) ready.later p.3),
+            (prefix_trans m.0.seen m'.0.seen (noted m'.0.stage) ready.later p.3),
         subst (λ (v : View E F). by number v.seen v.number ≡ v.own) (sym p.1) p.2,
       )

@@ -11,9 +11,10 @@ module _ {T E F : Type 0} where
   abbrev pub HasTicket : ℕ → Place T E F → Type 0
   HasTicket word m = (k : ℕ) × (k % 2 ^ 64 ≡ word) × (m.0.stage ≡ Waits k) × (m.0.live ≡ true)
 
-  -- its ticket was served: it has the slot with the value, whose history begins with what the seat has
-  -- seen, and has just its own entries under its number
-  pub record IsServed (history : T → List E) (number : E → ℕ) (fixed : T → F) (m m' : Place T E F) : Type 0 where
+  -- its ticket was served: it has the slot with the value, whose history begins with what the seat
+  -- has seen, and has just its own entries under its number
+  pub record IsServed (history : T → List E) (number : E → ℕ) (fixed : T → F)
+      (m m' : Place T E F) : Type 0 where
     pub ticket : ℕ
     pub value : T
     pub place : m'
@@ -29,12 +30,16 @@ module _ {T E F : Type 0} where
     pub in_hand : m.1 ≡ hand_of m.0.stage
 
   -- the value is in the slot again, and its history is the one that the seat has noted
-  pub record IsReady (history : T → List E) (grown : Bool) (value : T) (m m' : Place T E F) : Type 0 where
+  pub record IsReady (history : T → List E) (grown : Bool) (value : T)
+      (m m' : Place T E F) : Type 0 where
     pub place : m'
-        ≡ (record m.0 {
-          stage = Holds (ticket_of m.0.stage) (history value);
-          seen = m'.0.seen;
-          own = m'.0.own;
-        }, (0, Some value) ∷ [])
+        ≡ (
+          record m.0 {
+            stage = Holds (ticket_of m.0.stage) (history value);
+            seen = m'.0.seen;
+            own = m'.0.own;
+          },
+          (0, Some value) ∷ [],
+        )
     pub gains : Gains grown (noted m.0.stage) (history value) m.0.own m'.0.own
     pub later : IsPrefix m.0.seen m'.0.seen

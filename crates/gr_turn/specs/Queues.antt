@@ -39,13 +39,15 @@ module _ {E F : Type 0} where
 
   -- the seat `i`: what it has seen, and what it joined last, begin the history. Where it was not
   -- joined, its number is `i`, and its own entries are all that name it
-  pub record Fits (number : E → ℕ) (h : List E) (part : F) (served drawn i : ℕ) (v : View E F) : Type 0 where
+  pub record Fits (number : E → ℕ) (h : List E) (part : F) (served drawn i : ℕ)
+      (v : View E F) : Type 0 where
     pub seen : IsPrefix v.seen h
     pub left : IsPrefix v.left h
     pub right : IsPrefix v.right h
     pub stage : InLine served drawn h v.stage
     pub live : v.live ≡ true
-        → (v.number ≡ i) × (v.fixed ≡ Some part) × (by number h i ≡ v.own) × (v.splits ≡ v.out + v.joined)
+        → (v.number ≡ i) × (v.fixed ≡ Some part) × (by number h i ≡ v.own)
+        × (v.splits ≡ v.out + v.joined)
     pub spent : v.live ≡ false → v.stage ≡ Away
 
   -- the first seat counts the splits, and the seats that were not joined
@@ -79,10 +81,11 @@ module _ {T E F : Type 0} (history : T → List E) (number : E → ℕ) (fixed :
   Homed h part homes views =
       ((x : T) × (homes ≡ some (Some x) ∷ []) × (history x ≡ h) × (fixed x ≡ part))
       ⊎ ((length homes ≡ 1) × (i : ℕ) × (v : View E F) × (get_elem? views i ≡ some v)
-          × (in_turn v.stage ≡ true))
+      × (in_turn v.stage ≡ true))
 
-  -- There is one history, whose length is the third word. Each seat fits it, no two have one ticket,
-  -- the tickets that are out are as many as the seats in line, and no entry names a seat to come
+  -- there is one history, whose length is the third word; each seat fits it, no two have one
+  -- ticket, the tickets that are out are as many as the seats in line, and no entry names a seat
+  -- that is still to be split off
   pub record Kept (s : State (Option T) (View E F)) : Type 0 where
     pub h : List E
     pub part : F

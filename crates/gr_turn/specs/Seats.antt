@@ -8,9 +8,9 @@ use Rattle.gr_turn.specs.declared.views.Stage.TheVariants.{Away}
 use Rattle.gr_turn.specs.Views.{by, longer, in_turn, noted, hand_of}
 
 -- which lock it is a seat at; its number and the value's fixed part, which no call changes; the
--- history as far as it has seen it, its own entries there, and how many turns it has taken; how many
--- seats were split off it, and how many of these are out; whether it is in a turn, and the history
--- that this turn found
+-- history as far as it has seen it, its own entries there, and how many turns it has taken; how
+-- many seats were split off it, and how many of these are out; whether it is in a turn, and the
+-- history that this turn found
 pub record Sitting (E F : Type 0) : Type 0 where
   pub lock : TableId
   pub number : ℕ
@@ -79,8 +79,8 @@ module _ {E F : Type 0} where
   abbrev pub IsInTurn : TableId → Sitting E F → Type 0
   IsInTurn z s = (s.lock ≡ z) × (s.in_turn ≡ true)
 
-  -- the seat took another one in: it has seen the longer of both histories, which both begin, and one
-  -- seat less is out
+  -- the seat took another one in: it has seen the longer of both histories, which both begin, and
+  -- one seat less is out
   pub record IsJoined (s other t : Sitting E F) : Type 0 where
     pub changed : t ≡ record s { seen = longer s.seen other.seen; out = t.out }
     pub fewer : t.out + 1 ≡ s.out

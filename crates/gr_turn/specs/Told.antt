@@ -17,13 +17,13 @@ held_history history ((k, None) ∷ xs) = []
 held_history history ((k, Some x) ∷ xs) = history x
 
 module _ {T E F : Type 0} where
-  -- a look without a ticket: the seat is as before, and what it has seen begins the history, in which
-  -- its own entries are all that name it
+  -- a look without a ticket: the seat is as before, and what it has seen begins the history, in
+  -- which its own entries are all that name it
   abbrev pub Stays : (E → ℕ) → Place T E F → Place T E F → Type 0
   Stays number m m' =
       (m' ≡ m) × (h : List E) × IsPrefix m.0.seen h × IsPrefix m.0.left h × IsPrefix m.0.right h
       × (m.0.live ≡ true
-          → (by number h m.0.number ≡ m.0.own) × (m.0.splits ≡ m.0.out + m.0.joined))
+      → (by number h m.0.number ≡ m.0.own) × (m.0.splits ≡ m.0.out + m.0.joined))
 
   -- the same, as a play
   abbrev pub glanced : (E → ℕ) → Step (Option T) → Place T E F → ℕ → Place T E F → Type 0
@@ -38,16 +38,18 @@ module _ {T E F : Type 0} where
   abbrev pub drew : Step (Option T) → Place T E F → ℕ → Place T E F → Type 0
   drew st m found m' = Drawn m found m'
 
-  -- a look with a ticket: where it is served the seat took the slot, with a value whose history begins
-  -- with what the seat has seen and has just its own entries under its number; else it is as before
+  -- a look with a ticket: where it is served the seat took the slot, with a value whose history
+  -- begins with what the seat has seen and has just its own entries under its number; else it is as
+  -- before
   abbrev pub Took : (T → List E) → (E → ℕ) → (T → F) → Place T E F → ℕ → Place T E F → Type 0
   Took history number fixed m found m' =
       (found ≡ ticket_of m.0.stage % 2 ^ 64
-          → (x : T)
-          × (m' ≡ (record m.0 { stage = Holds (ticket_of m.0.stage) (history x) }, (0, Some x) ∷ m.1))
-          × IsPrefix m.0.seen (history x)
-          × (by number (history x) m.0.number ≡ m.0.own)
-          × (Some (fixed x) ≡ m.0.fixed))
+      → (x : T)
+      × (m'
+      ≡ (record m.0 { stage = Holds (ticket_of m.0.stage) (history x) }, (0, Some x) ∷ m.1))
+      × IsPrefix m.0.seen (history x)
+      × (by number (history x) m.0.number ≡ m.0.own)
+      × (Some (fixed x) ≡ m.0.fixed))
       × (¬ (found ≡ ticket_of m.0.stage % 2 ^ 64) → m' ≡ m)
 
   -- the same, as a play

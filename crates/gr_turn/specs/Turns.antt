@@ -3,7 +3,7 @@ use Rattle.std.specs.Prelude.{◌≡◌, ◌+◌, ℕ, Bool, false, List, [], �
 use Rattle.gr_turn.specs.Seats.{Sitting}
 
 module _ {E : Type 0} where
-  -- where a turn made an entry, the history has one entry more, which names the number; else it stays
+  -- where a turn made an entry, the history has one more, which names the number; else it stays
   abbrev pub Grows : Bool → (E → ℕ) → ℕ → List E → List E → Type 0
   Grows grown number n before after =
       MatchBool grown

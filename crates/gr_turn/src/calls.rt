@@ -35,8 +35,8 @@ impl<T: Keeps> Turn<T> {
         })
     }
 
-    /// Splits a new seat off the first one. It has seen what the first one has, and made no entry; its
-    /// number is how many splits there were. Takes no memory.
+    /// Splits a new seat off the first one. It has seen what the first one has, and made no entry;
+    /// its number is how many splits there were. Takes no memory.
     pub fn split(&self, seat: &mut Seat<T>) -> Seat<T>
         requires away { IsAway self.now seat.old }
         requires first { seat.old.number ≡ 0 }
@@ -52,8 +52,8 @@ impl<T: Keeps> Turn<T> {
         Seat { place }
     }
 
-    /// Takes another seat into the first one, which has then seen the longer of both histories. Takes
-    /// no memory.
+    /// Takes another seat into the first one, which has then seen the longer of both histories.
+    /// Takes no memory.
     pub fn join(&self, seat: &mut Seat<T>, other: Seat<T>)
         requires away { IsAway self.now seat.old }
         requires first { seat.old.number ≡ 0 }
@@ -67,8 +67,8 @@ impl<T: Keeps> Turn<T> {
         shared.load::<Glance>(&mut seat.place, TICKET);
     }
 
-    /// Waits for the seat's turn, and takes the value. Its history begins with what the seat has seen,
-    /// and the entries in it that name the seat are just those that the seat made.
+    /// Waits for the seat's turn, and takes the value. Its history begins with what the seat has
+    /// seen, and the entries in it that name the seat are just those that the seat made.
     pub fn enter<R: Wait>(&self, rt: &R, seat: &mut Seat<T>) -> Held<T>
         requires { IsAway self.now seat.old }
         ensures seat { seat.new
@@ -78,18 +78,26 @@ impl<T: Keeps> Turn<T> {
         ensures fixed { Some (T.fixed result.value) ≡ seat.old.fixed }
         ensures all { by T.number seat.old.seen seat.old.number ≡ seat.old.own }
     {
-        let ticket = self.table.shared.fetch_add::<Draw>(&mut seat.place, TICKET, 1);
+        let ticket = self
+            .table
+            .shared
+            .fetch_add::<Draw>(&mut seat.place, TICKET, 1);
         self.look_until_served(rt, &mut seat.place, ticket);
-        let value = self.table.shared.exchange(&mut seat.place, 0, None).unwrap();
+        let value = self
+            .table
+            .shared
+            .exchange(&mut seat.place, 0, None)
+            .unwrap();
         Held { value }
     }
 
-    /// Gives the value back, and passes the turn on. `grown` says whether the turn made an entry. Takes
-    /// no memory, and does not wait.
+    /// Gives the value back, and passes the turn on. `grown` says whether the turn made an entry.
+    /// Takes no memory, and does not wait.
     pub fn leave(&self, seat: &mut Seat<T>, held: Held<T>, grown: bool)
         requires turn { IsInTurn self.now seat.old }
         requires fixed { Some (T.fixed held.value) ≡ seat.old.fixed }
-        requires history { Grows grown T.number seat.old.number seat.old.found (T.history held.value) }
+        requires history { Grows grown T.number seat.old.number seat.old.found
+            (T.history held.value) }
         ensures seat { seat.new ≡ after_turn seat.old (T.history held.value) seat.new.own }
         ensures own { Gains grown seat.old.found (T.history held.value) seat.old.own seat.new.own }
         ensures seen { IsPrefix seat.old.seen seat.new.seen
@@ -97,7 +105,10 @@ impl<T: Keeps> Turn<T> {
     {
         let Held { value } = held;
         self.put_back(&mut seat.place, value, grown);
-        let ticket = self.table.shared.fetch_add::<PassOn>(&mut seat.place, SERVING, 1);
+        let ticket = self
+            .table
+            .shared
+            .fetch_add::<PassOn>(&mut seat.place, SERVING, 1);
         self.waiting.wake(ticket.wrapping_add(1));
     }
 

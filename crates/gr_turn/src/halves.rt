@@ -38,7 +38,7 @@ impl<T: Keeps> Turn<T> {
         unreachable!()
     }
 
-    /// Yields, and after so many looks sleeps instead. No contract can say more: it touches no seat.
+    /// Yields, and after so many looks sleeps instead. It touches no seat: a contract sees nothing.
     fn pause<R: Wait>(&self, rt: &R, ticket: u64, looks: u32) {
         if looks < YIELDS {
             thread::yield_now();

@@ -14,6 +14,5 @@ pub use keeps::Keeps;
 pub use locks::{Held, Opened, Seat, Turn};
 pub use views::{Queue, Stage, View};
 
-
 #[cfg(test)]
 mod tests;

@@ -58,7 +58,7 @@ pub struct Opened<T: Keeps> {
     pub seat: Seat<T>,
 }
 
-/// The value, for the length of a turn. It has no `Drop`: only `leave` takes it, which ends the turn.
+/// The value, for the length of a turn. It has no `Drop`: only `leave` takes it, and ends the turn.
 pub struct Held<T: Keeps> {
     pub(crate) value: T,
 }

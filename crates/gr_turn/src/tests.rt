@@ -146,7 +146,8 @@ fn two_threads_take_a_hundred_turns_each(rt: HostRuntime) -> Result<(), Fail> {
         handle,
         move || -> (Seat<Notes>, u64)
             requires { IsAway lock.now first × (first.number ≡ 0) }
-            ensures { IsAway lock.entry.now result.0 × (result.0.number ≡ 0) × (result.0.out ≡ first.out)
+            ensures { IsAway lock.entry.now result.0 × (result.0.number ≡ 0)
+                × (result.0.out ≡ first.out)
                 × (length result.0.own ≡ length first.own + result.1) }
         { note_all(handle, lock, first, 0) },
         move || -> (Seat<Notes>, u64)

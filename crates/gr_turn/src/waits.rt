@@ -8,11 +8,11 @@ use std::time::Duration;
 /// How often a thread yields for its turn before it sleeps.
 pub(crate) const YIELDS: u32 = 20;
 
-/// The longest sleep, in milliseconds. A wake comes before, but for a thread that sleeps beside.
+/// The longest sleep, in milliseconds. A wake ends it before.
 const LONGEST: u64 = 10;
 
-/// A waiting array (Dice and Kogan, Euro-Par 2019): a thread sleeps at the bed of its ticket, and whoever
-/// passes the turn on wakes the bed of the next ticket alone.
+/// A waiting array (Dice and Kogan, Euro-Par 2019): a thread sleeps at the bed of its ticket, and
+/// whoever passes the turn on wakes the bed of the next ticket alone.
 #[derive(Drop)]
 pub(crate) struct WaitingArray {
     beds: [Bed; 16],
@@ -63,7 +63,8 @@ impl Bed {
 
     /// Sleeps, unless there was a call since.
     pub(crate) fn sleep<R: Wait>(&self, rt: &R, calls: u32) {
-        self.calls.park_timeout(rt, calls, Duration::from_millis(LONGEST));
+        self.calls
+            .park_timeout(rt, calls, Duration::from_millis(LONGEST));
     }
 
     /// Says that the thread is awake.

@@ -29,7 +29,8 @@ returns-clause-seen g c =
     (is_away g.T.Keeps.number _ _ _ c.seat.view_is c.seat.invariant c.requires.away.1)
     (ap (λ s. s.out) c.seat.view_is ∙ c.requires.alone) c.close_with-closed.ensures.values.2 in
     let is : last.0 ≡ c.unwrap-value.result =
-    some_same _ _ (some-injective _ _ (sym last.1 ∙ c.take.ensures.value) ∙ c.unwrap-value.ensures) in
+    some_same _ _
+    (some-injective _ _ (sym last.1 ∙ c.take.ensures.value) ∙ c.unwrap-value.ensures) in
     subst (λ s. IsPrefix s.seen (g.T.Keeps.history c.unwrap-value.result)) c.seat.view_is
     (subst (λ x. IsPrefix c.seat.inside.place.me.0.seen (g.T.Keeps.history x)) is last.2)
 
@@ -42,7 +43,8 @@ returns-clause-own g c =
     (is_away g.T.Keeps.number _ _ _ c.seat.view_is c.seat.invariant c.requires.away.1)
     (ap (λ s. s.out) c.seat.view_is ∙ c.requires.alone) c.close_with-closed.ensures.values.2 in
     let is : last.0 ≡ c.unwrap-value.result =
-    some_same _ _ (some-injective _ _ (sym last.1 ∙ c.take.ensures.value) ∙ c.unwrap-value.ensures) in
+    some_same _ _
+    (some-injective _ _ (sym last.1 ∙ c.take.ensures.value) ∙ c.unwrap-value.ensures) in
     subst (λ s. by g.T.Keeps.number (g.T.Keeps.history c.unwrap-value.result) s.number ≡ s.own)
     c.seat.view_is
     (subst (λ x. by g.T.Keeps.number (g.T.Keeps.history x) c.seat.inside.place.me.0.number
@@ -57,5 +59,6 @@ returns-clause-fixed g c =
     (is_away g.T.Keeps.number _ _ _ c.seat.view_is c.seat.invariant c.requires.away.1)
     (ap (λ s. s.out) c.seat.view_is ∙ c.requires.alone) c.close_with-closed.ensures.values.2 in
     let is : last.0 ≡ c.unwrap-value.result =
-    some_same _ _ (some-injective _ _ (sym last.1 ∙ c.take.ensures.value) ∙ c.unwrap-value.ensures) in
+    some_same _ _
+    (some-injective _ _ (sym last.1 ∙ c.take.ensures.value) ∙ c.unwrap-value.ensures) in
     ap (λ x. Some (g.T.Keeps.fixed x)) (sym is) ∙ (last.4 ∙ ap (λ s. s.fixed) c.seat.view_is)

@@ -18,15 +18,16 @@ fetch_add-ticket-requires g c =
 pub look_until_served-requires-clause-ticket : goal.look_until_served-requires-clause-ticket
 look_until_served-requires-clause-ticket g c =
     λ _ _. has_ticket g.T.Keeps.history g.T.Keeps.number g.T.Keeps.fixed c.seat.inside.place.me
-        c.fetch_add-ticket.new.seat.me c.fetch_add-ticket.result c.seat.invariant.live
-        c.fetch_add-ticket.ensures.2
+    c.fetch_add-ticket.new.seat.me c.fetch_add-ticket.result c.seat.invariant.live
+    c.fetch_add-ticket.ensures.2
 
 -- then it has the slot, with the value
 pub exchange-requires : goal.exchange-requires
 exchange-requires g c =
-    let served = c.look_until_served.ensures.served in
-    (search rules,
-    (Some served.value, has_slot g.T.Keeps.history g.T.Keeps.number g.T.Keeps.fixed _ _ served))
+    let served = c.look_until_served.ensures.served in (
+      search rules,
+      (Some served.value, has_slot g.T.Keeps.history g.T.Keeps.number g.T.Keeps.fixed _ _ served),
+    )
 
 pub unwrap-value-requires : goal.unwrap-value-requires
 unwrap-value-requires g c =

@@ -8,7 +8,8 @@ use Rattle.gr_turn.proofs.locks.Turn.join.Goals as goal
 pub join_seat-requires : goal.join_seat-requires
 join_seat-requires g c =
     let away = is_away g.T.Keeps.number _ _ _ c.seat.view_is c.seat.invariant c.requires.away.1 in
-    let other = is_away g.T.Keeps.number _ _ _ c.other.view_is c.other.invariant c.requires.other.0.1 in (
+    let other =
+    is_away g.T.Keeps.number _ _ _ c.other.view_is c.other.invariant c.requires.other.0.1 in (
       search rules,
       search rules,
       search rules,
@@ -50,5 +51,5 @@ returns-clause-seat g c =
     c.seat.inside.place.me.1 _ _ c.join_seat.ensures.2 c.seat.invariant.live c.seat.invariant.own_is
     c.seat.invariant.in_hand away c.load.ensures.2 in
     is_joined g.T.Keeps.number _ _ _ _ _ c.seat.inside.place.me.0 c.other.inside.place.me.0
-    c.seat.inside.place.me.1 _ c.seat.view_is c.other.view_is (c.load.ensures.0 ∙ c.join_seat.ensures.0)
-    c.seat.invariant.sums now.1 now.2 now.3 now.4
+    c.seat.inside.place.me.1 _ c.seat.view_is c.other.view_is
+    (c.load.ensures.0 ∙ c.join_seat.ensures.0) c.seat.invariant.sums now.1 now.2 now.3 now.4

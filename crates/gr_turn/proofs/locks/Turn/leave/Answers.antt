@@ -8,8 +8,8 @@ pub fetch_add-ticket-requires : goal.fetch_add-ticket-requires
 fetch_add-ticket-requires g c = (
   search rules,
   search rules,
-  passes_back g.T.Keeps.history g.T.Keeps.number g.T.Keeps.fixed _ _ _ _ c.args.held.value c.args.grown
-      c.seat.invariant.live c.put_back.ensures.ready (search rules)
+  passes_back g.T.Keeps.history g.T.Keeps.number g.T.Keeps.fixed _ _ _ _ c.args.held.value
+      c.args.grown c.seat.invariant.live c.put_back.ensures.ready (search rules)
       (c.requires.fixed ∙ sym (ap (λ s. s.fixed) c.seat.view_is)),
 )
 
@@ -17,6 +17,6 @@ fetch_add-ticket-requires g c = (
 pub returns-clause-seen : goal.returns-clause-seen
 returns-clause-seen g c =
     let p =
-    passed_on g.T.Keeps.history g.T.Keeps.number g.T.Keeps.fixed _ _ _ c.args.held.value c.args.grown
-    c.put_back.ensures.ready c.fetch_add-ticket.ensures.2 in
+    passed_on g.T.Keeps.history g.T.Keeps.number g.T.Keeps.fixed _ _ _ c.args.held.value
+    c.args.grown c.put_back.ensures.ready c.fetch_add-ticket.ensures.2 in
     (subst (λ s. IsPrefix s.seen c.fetch_add-ticket.new.seat.me.0.seen) c.seat.view_is p.0, p.1)
