@@ -1,8 +1,8 @@
 //! Seats that take turns at a lock, to be timed from outside beside a ticket lock in C.
 //!
 //! Words: `THREADS TURNS WORK`. So many seats, each in a thread of its own, take so many turns.
-//! Between two turns are so many steps of arithmetic, and each turn makes an entry. How many entries
-//! the history then has is printed, and how many turns made one.
+//! Between two turns are so many steps of arithmetic, and each turn makes an entry. It prints how many
+//! entries the history then has, and how many turns made one.
 #![tactic(auto)]
 
 mod crowds;

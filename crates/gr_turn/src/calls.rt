@@ -78,16 +78,10 @@ impl<T: Keeps> Turn<T> {
         ensures fixed { Some (T.fixed result.value) ≡ seat.old.fixed }
         ensures all { by T.number seat.old.seen seat.old.number ≡ seat.old.own }
     {
-        let ticket = self
-            .table
-            .shared
-            .fetch_add::<Draw>(&mut seat.place, TICKET, 1);
+        let shared = &self.table.shared;
+        let ticket = shared.fetch_add::<Draw>(&mut seat.place, TICKET, 1);
         self.look_until_served(rt, &mut seat.place, ticket);
-        let value = self
-            .table
-            .shared
-            .exchange(&mut seat.place, 0, None)
-            .unwrap();
+        let value = shared.exchange(&mut seat.place, 0, None).unwrap();
         Held { value }
     }
 
@@ -105,10 +99,8 @@ impl<T: Keeps> Turn<T> {
     {
         let Held { value } = held;
         self.put_back(&mut seat.place, value, grown);
-        let ticket = self
-            .table
-            .shared
-            .fetch_add::<PassOn>(&mut seat.place, SERVING, 1);
+        let shared = &self.table.shared;
+        let ticket = shared.fetch_add::<PassOn>(&mut seat.place, SERVING, 1);
         self.waiting.wake(ticket.wrapping_add(1));
     }
 
