@@ -10,13 +10,7 @@ use std::hint::black_box;
 use std::sync::Wait;
 
 /// So many turns, with so many steps of arithmetic between two of them.
-pub fn take_turns<R: Wait>(
-    rt: &R,
-    turn: &Turn<Tally>,
-    guest: Guest,
-    turns: u32,
-    work: u32,
-) -> Guest
+pub fn take_turns<R: Wait>(rt: &R, turn: &Turn<Tally>, guest: Guest, turns: u32, work: u32) -> Guest
     requires { IsFresh turn.now guest }
     ensures { IsAt turn.now result }
 {
