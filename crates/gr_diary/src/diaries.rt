@@ -1,5 +1,5 @@
 // The diary: the exchange's history, packed into bytes.
-ghost use Rattle.std.specs.Prelude.{◌≡◌, ◌≤◌, ◌<◌, ◌+◌, ◌*◌, ◌++◌, ◌∷◌, [], length, drop, slice_get, vec_len, vec_capacity, true, false, Some, IfOk, OnOk, IsTrue, max};
+ghost use Rattle.std.specs.Prelude.{◌≡◌, ◌≤◌, ◌<◌, ◌+◌, ◌*◌, ◌^◌, ◌++◌, ◌∷◌, [], length, drop, slice_get, vec_len, vec_capacity, true, false, Some, IfOk, OnOk, IsTrue, max};
 ghost use Rattle.gr_diary.specs.Packing.{packed, number_bytes};
 ghost use Rattle.gr_diary.specs.Unpacking.{numbers_in};
 ghost use Rattle.gr_diary.specs.Ranges.{IsPacked};
@@ -140,7 +140,9 @@ impl Diary {
 
     /// The number of entries. Takes no memory.
     pub fn len(&self) -> u64
-        ensures { result ≡ length self.now.entries }
+        ensures len { result ≡ length self.now.entries }
+        ensures left { length self.now.left ≡ length self.now.entries }
+        ensures few { length self.now.entries < 2 ^ 62 }
     {
         self.len
     }
