@@ -61,6 +61,25 @@ fn agrees_with_a_list_of_pairs(rt: HostRuntime) -> Result<(), Fail> {
     Ok(())
 }
 
+#[test]
+fn holds_many_ids(rt: HostRuntime) -> Result<(), Fail> {
+    let mut holders = Holders::new(rt.alloc());
+    for pair in 0..11_000u64 {
+        let by = numbered((pair % 11) as u32);
+        let id = (pair / 11).saturating_mul(5_000_000_000);
+        if !holders.holds(id, by) {
+            holders.give(id, by)?;
+        }
+    }
+    let mut held: u64 = 0;
+    for id in 0..1_000u64 {
+        let far = id.saturating_mul(5_000_000_000);
+        held = held.saturating_add(holders.count(far) as u64);
+    }
+    assert_eq!(rt; held, 11_000);
+    Ok(())
+}
+
 /// The holder of a number: the actors, the work list, and the result list.
 fn numbered(number: u32) -> Holder
     requires { number < 11 }
