@@ -20,6 +20,7 @@ use Rattle.gr_bench.specs.Exchanges.{Tells, IsLogged}
 use Rattle.gr_bench.specs.Tables.{Table}
 use Rattle.gr_bench.specs.Kept.{IsInStep}
 
+-- a list without members is empty
 none-there : (xs : List ℕ) → ((q : ℕ) → has q xs ≡ true → false ≡ true) → xs ≡ []
 none-there [] none = refl
 none-there (x ∷ xs) none = absurd (let no = none x (ap (λ b. b || has x xs) (same-number x)) in cc)
@@ -33,9 +34,11 @@ none-leaves f reducers capacity s e k ok none =
 
 module _ (f : Cnf) (reducers capacity : ℕ) (diary : Journal) (t : Table)
     (step : IsInStep f reducers capacity diary t) where
+  -- a closed table is that of a closed history
   pub is-closed : t.closed ≡ true → IsClosed diary.entries
   is-closed is = (states-tell-the-end f reducers capacity diary.entries).0.0 (sym step.mirrors.closed ∙ is)
 
+  -- and the other way round
   pub closed-is : IsClosed diary.entries → t.closed ≡ true
   closed-is ended = step.mirrors.closed ∙ (states-tell-the-end f reducers capacity diary.entries).0.1 ended
 

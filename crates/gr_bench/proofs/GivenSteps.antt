@@ -29,26 +29,33 @@ some-work (x ∷ xs) item is none = absurd (cc)
 module _ (x : Exchange) (f : Cnf) (reducers capacity : ℕ) (diary : Journal) (t : Table)
     (view : record { formula = f; reducers = reducers; capacity = capacity; diary = diary } ≡ x)
     (step : IsInStep f reducers capacity diary t) (item : Item) (best_is : BestIs x item) where
+  -- the state before
   abbrev s : State
   s = state_of f reducers capacity diary.entries
 
+  -- it keeps the invariant
   kept : IsKept f reducers s
   kept = state-kept f reducers capacity diary.entries step.tells.legal
 
+  -- the item is the best on offer
   best-now : best s.work ≡ Some item
   best-now = subst (λ y. BestIs y item) (sym view) best_is
 
+  -- the work list holds it
   pub item-held : set.contains t.holders (item.id, Work) ≡ true
   item-held = is-held f reducers capacity s t kept step.mirrors item best-now
 
+  -- its clause is among those on offer
   pub item-clause : IsSome (t.offers item.id)
   item-clause = has-clause f reducers capacity s t kept step.mirrors item best-now
 
+  -- the reducer does not hold it
   pub item-free : (actor : ℕ) → IsEnabledAt x (Take actor) → set.contains t.holders (item.id, Actor actor) ≡ false
   item-free actor able =
       no-reducer f reducers capacity s t kept step.mirrors item best-now actor
       (subst (λ y. IsEnabledAt y (Take actor)) (sym view) able).0
 
+  -- its id and its clause are what is answered
   pub best-offer : (c : List Literal) → t.offers item.id ≡ Some c → IsBestOffer (state_at x) item.id c
   best-offer c is = record {
     best = ap (λ (o : Option Item). option_map (λ (i : Item). i.id) o) best_is;
@@ -56,6 +63,7 @@ module _ (x : Exchange) (f : Cnf) (reducers capacity : ℕ) (diary : Journal) (t
         (is-live f reducers capacity s t kept step.mirrors item best-now c is);
   }
 
+  -- the books are in step after the call
   pub given-step : IsOpenAt x → (d : Journal) (new : Table) → d.first ≡ diary.first → d.has_room ≡ diary.has_room
       → (actor : ℕ) → IsEnabledAt x (Take actor) → new ≡ given_to actor item.id t
       → d.entries ≡ diary.entries ++ Take actor ∷ [] → d.left ≡ diary.left ++ [] ∷ []

@@ -20,12 +20,15 @@ use Rattle.gr_bench.proofs.TakenOver.{results-are, first-apart, first-live, old-
 module _ (x : Exchange) (f : Cnf) (reducers capacity : ℕ) (diary : Journal) (t : Table)
     (view : record { formula = f; reducers = reducers; capacity = capacity; diary = diary } ≡ x)
     (step : IsInStep f reducers capacity diary t) (still : IsOpenAt x) (some : HasResult x) where
+  -- the state before
   abbrev s : State
   s = state_of f reducers capacity diary.entries
 
+  -- it keeps the invariant
   kept : IsKept f reducers s
   kept = state-kept f reducers capacity diary.entries step.tells.legal
 
+  -- the entry may come
   ok : Allowed f reducers s Import
   ok = record {
     still_open = still-open x f reducers capacity diary view still;
@@ -33,6 +36,7 @@ module _ (x : Exchange) (f : Cnf) (reducers capacity : ℕ) (diary : Journal) (t
     able = tt;
   }
 
+  -- the results hold the first result, and the searching thread does not
   pub apart : FirstIsApart t.results t.holders
   apart = cases t.results refl
     where
@@ -42,9 +46,11 @@ module _ (x : Exchange) (f : Cnf) (reducers capacity : ℕ) (diary : Journal) (t
           first-apart f reducers capacity step.few s t kept step.mirrors ok first later is
 
   module _ (first : Pending) (later : List Pending) (is : t.results ≡ first ∷ later) where
+    -- the searching thread holds what it lets go
     pub dropped-held : HoldsEach (taken_over first.id t).holders 0 (held_old t.holders first.old)
     dropped-held = old-held f reducers capacity step.few s t kept step.mirrors ok first later is
 
+    -- the first result is what is answered
     pub first-result : IsFirstResult (state_at x) first.old first.id first.clause
     first-result = subst (λ y. IsFirstResult (state_at y) first.old first.id first.clause) view (record {
       later = map outcome_of later;
@@ -52,6 +58,7 @@ module _ (x : Exchange) (f : Cnf) (reducers capacity : ℕ) (diary : Journal) (t
       clause = first-live f reducers capacity step.few s t kept step.mirrors ok first later is;
     })
 
+    -- the books are in step after the call
     pub imported-step : (d : Journal) (new : Table) (gone : List ℕ) → d.first ≡ diary.first
         → d.has_room ≡ diary.has_room
         → new ≡ forgotten_by 0 (held_old t.holders first.old) (taken_over first.id t)

@@ -27,6 +27,16 @@ use Rattle.gr_bench.specs.Tables.{Table}
 use Rattle.gr_bench.specs.Mirrors.{Mirrors, IsLiveResult, outcome_of, holds_in}
 use Rattle.gr_bench.specs.Kept.{IsInStep}
 
+-- what is pushed stands behind what was there
+pub behind : {X : Type 0} {before same all : List X} (x : X) → all ≡ same ++ x ∷ [] → same ≡ before
+    → all ≡ before ++ x ∷ []
+behind x pushed is = pushed ∙ ap (λ z. z ++ x ∷ []) is
+
+-- also where it is named in another way
+pub behind-as : {X : Type 0} {before same all : List X} {x y : X} → all ≡ same ++ y ∷ [] → same ≡ before → y ≡ x
+    → all ≡ before ++ x ∷ []
+behind-as pushed is named = pushed ∙ (λ i. is i ++ named i ∷ [])
+
 -- the state after a legal history keeps the invariant
 pub state-kept : (f : Cnf) (reducers capacity : ℕ) (d : List Entry) → IsLegal f reducers capacity d
     → IsKept f reducers (state_of f reducers capacity d)
@@ -35,6 +45,7 @@ state-kept f reducers capacity d legal =
 
 module _ (f : Cnf) (reducers capacity : ℕ) (s : State) (e : Entry) (k : IsKept f reducers s)
     (ok : Allowed f reducers s e) where
+  -- ids and lists are in order before ids leave
   pub now : IsInOrder f reducers (moved capacity s e)
   now = in-order f reducers capacity s k.order e (changed f reducers capacity s k.order e ok)
 
@@ -45,6 +56,7 @@ module _ (f : Cnf) (reducers capacity : ℕ) (s : State) (e : Entry) (k : IsKept
       held-stays f reducers (moved capacity s e) now (left_ids f reducers capacity s e)
       (λ id out. (left-free f reducers capacity s e id out).1) q there
 
+  -- the clauses of results stay when ids leave
   results-stay : (rs : List Pending) → All (IsLiveResult (moved capacity s e)) rs
       → ((q : ℕ) → in_results q (map outcome_of rs) ≡ true → in_results q (results_after s e) ≡ true)
       → All (IsLiveResult (after f reducers capacity s e)) rs
@@ -128,6 +140,7 @@ pushed f reducers capacity diary t step e gone d new ok gone_is mirrors first en
 
 module _ (x : Exchange) (f : Cnf) (reducers capacity : ℕ) (diary : Journal)
     (view : record { formula = f; reducers = reducers; capacity = capacity; diary = diary } ≡ x) where
+  -- the history is open, seen from inside
   pub still-open : IsOpenAt x → (state_of f reducers capacity diary.entries).closed ≡ false
   still-open is = subst IsOpenAt (sym view) is
 

@@ -1,3 +1,4 @@
+-- `Close` is the one entry that needs no room of its own
 use Rattle.std.proofs.Common.{refl}
 use Rattle.gr_diary.specs.declared.entries.Entry.TheVariants.{Close}
 use Rattle.gr_bench.specs.Tables.{table_of}

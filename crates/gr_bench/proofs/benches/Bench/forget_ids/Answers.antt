@@ -1,8 +1,9 @@
+-- what was let go by its last holder leaves
 use Rattle.std.proofs.Common.{[], ◌∷◌, ◌++◌, ◌∙◌, ap, sym, subst}
 use Rattle.gr_diary.specs.declared.entries.Entry.TheVariants.{Forget}
 use Rattle.gr_bench.specs.Lone.{is_lone}
 use Rattle.gr_bench.specs.Tables.{table_of, forgotten_by, HoldsEach}
-use Rattle.gr_bench.proofs.Pushed.{grown}
+use Rattle.gr_bench.proofs.Pushed.{grown, behind}
 use Rattle.gr_bench.proofs.ForgetSteps.{ids-held, forgotten-step}
 use Rattle.gr_bench.proofs.benches.Bench.forget_ids.Goals as goal
 use Rattle.std.proofs.Common.{filter}
@@ -23,12 +24,13 @@ invariant_of-self-2 c =
     (c.push.ensures.first ∙ c.in_ok-reserve.ensures.first) (c.push.ensures.close ∙ c.in_ok-reserve.ensures.close)
     (c.forget.ensures ∙ ap (λ ids. forgotten_by c.args.actor ids (table_of i.books)) c.forgotten.ensures)
     (c.in_ok-left.ensures ∙ ap (filter (is_lone i.books.holders)) c.all.ensures)
-    (c.push.ensures.entries ∙ ap (λ z. z ++ Forget c.args.actor c.args.ids ∷ []) c.in_ok-reserve.ensures.entries)
-    (c.push.ensures.left ∙ ap (λ z. z ++ c.in_ok-left.left ∷ []) c.in_ok-reserve.ensures.left)
+    (behind _ c.push.ensures.entries c.in_ok-reserve.ensures.entries)
+    (behind _ c.push.ensures.left c.in_ok-reserve.ensures.left)
 
 pub returns-clause-ok : goal.returns-clause-ok
 returns-clause-ok c =
     let i = c.self.inside in
-    grown c.args.self.now i.formula i.reducers i.capacity i.diary c.self.view_is c.self.invariant.tells c.requires.still
+    grown c.args.self.now i.formula i.reducers i.capacity i.diary c.self.view_is c.self.invariant.tells
+    c.requires.still
     (Forget c.args.actor c.args.ids) c.requires.able tt c.push.new.self
-    (c.push.ensures.entries ∙ ap (λ z. z ++ Forget c.args.actor c.args.ids ∷ []) c.in_ok-reserve.ensures.entries)
+    (behind _ c.push.ensures.entries c.in_ok-reserve.ensures.entries)

@@ -1,9 +1,10 @@
+-- the shorter clause is a result, and the reducer lets the taken one go
 use Rattle.std.proofs.Common.{[], ◌∷◌, ◌++◌, ◌∙◌, ap, sym, subst, refl, None, filter, option_to_list}
 use Rattle.gr_logic.specs.declared.items.Strengthened.TheVariants.{Shorter}
 use Rattle.gr_diary.specs.declared.entries.Entry.TheVariants.{Return}
 use Rattle.gr_bench.specs.Lone.{is_lone}
 use Rattle.gr_bench.specs.Tables.{Table, table_of, ended_if, noted_taken, forgotten_by, HoldsEach}
-use Rattle.gr_bench.proofs.Pushed.{grown, unchanged}
+use Rattle.gr_bench.proofs.Pushed.{grown, unchanged, behind}
 use Rattle.gr_bench.proofs.KeptSteps.{next-free, next-no_result}
 use Rattle.gr_bench.proofs.ShortSteps.{held-taken, shortened-step}
 use Rattle.gr_bench.proofs.benches.Bench.give_shorter.Goals as goal
@@ -49,13 +50,13 @@ invariant_of-self-2 c =
     c.in_ok-share.ensures.ok)))
     (c.in_ok-left.ensures
     ∙ ap (λ o. filter (is_lone i.books.holders) (option_to_list o)) c.unless-candidate.ensures)
-    (c.push.ensures.entries
-    ∙ ap (λ z. z ++ Return c.args.actor (Shorter c.args.clause c.args.hints) ∷ []) c.in_ok-reserve.ensures.entries)
-    (c.push.ensures.left ∙ ap (λ z. z ++ c.in_ok-left.left ∷ []) c.in_ok-reserve.ensures.left)
+    (behind _ c.push.ensures.entries c.in_ok-reserve.ensures.entries)
+    (behind _ c.push.ensures.left c.in_ok-reserve.ensures.left)
 
 pub returns-clause-ok : goal.returns-clause-ok
 returns-clause-ok c =
     let i = c.self.inside in
-    grown c.args.self.now i.formula i.reducers i.capacity i.diary c.self.view_is c.self.invariant.tells c.requires.still
+    grown c.args.self.now i.formula i.reducers i.capacity i.diary c.self.view_is c.self.invariant.tells
+    c.requires.still
     (Return c.args.actor (Shorter c.args.clause c.args.hints)) c.requires.able tt c.push.new.self
-    (c.push.ensures.entries ∙ ap (λ z. z ++ Return c.args.actor (Shorter c.args.clause c.args.hints) ∷ []) c.in_ok-reserve.ensures.entries)
+    (behind _ c.push.ensures.entries c.in_ok-reserve.ensures.entries)

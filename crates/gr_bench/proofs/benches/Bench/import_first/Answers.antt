@@ -1,8 +1,9 @@
+-- the first result goes to the searching thread, and what it stands for is let go
 use Rattle.std.proofs.Common.{◌≡◌, [], ◌∷◌, ◌++◌, ◌∙◌, ap, sym, subst, filter, option_to_list}
 use Rattle.gr_diary.specs.declared.entries.Entry.TheVariants.{Import}
 use Rattle.gr_bench.specs.Lone.{is_lone}
 use Rattle.gr_bench.specs.Tables.{Table, table_of, held_old, held_old_of, forgotten_by, HoldsEach}
-use Rattle.gr_bench.proofs.Pushed.{grown, unchanged}
+use Rattle.gr_bench.proofs.Pushed.{grown, unchanged, behind}
 use Rattle.gr_bench.proofs.ImportSteps.{apart, dropped-held, first-result, imported-step}
 use Rattle.gr_bench.proofs.benches.Bench.import_first.Goals as goal
 
@@ -42,16 +43,16 @@ invariant_of-self-2 c =
     (c.push.ensures.first ∙ c.in_ok-reserve.ensures.first) (c.push.ensures.close ∙ c.in_ok-reserve.ensures.close)
     (c.let_go.ensures ∙ (λ j. forgotten_by 0 (ids j) (c.in_ok-first.ensures.ok j)))
     (c.in_ok-left.ensures ∙ ap (filter (is_lone i.books.holders)) ids)
-    (c.push.ensures.entries ∙ ap (λ z. z ++ Import ∷ []) c.in_ok-reserve.ensures.entries)
-    (c.push.ensures.left ∙ ap (λ z. z ++ c.in_ok-left.left ∷ []) c.in_ok-reserve.ensures.left)
+    (behind _ c.push.ensures.entries c.in_ok-reserve.ensures.entries)
+    (behind _ c.push.ensures.left c.in_ok-reserve.ensures.left)
 
 pub returns-clause-ok : goal.returns-clause-ok
 returns-clause-ok c =
-    let i = c.self.inside in
-    (
-      grown c.args.self.now i.formula i.reducers i.capacity i.diary c.self.view_is c.self.invariant.tells c.requires.still
+    let i = c.self.inside in (
+      grown c.args.self.now i.formula i.reducers i.capacity i.diary c.self.view_is c.self.invariant.tells
+          c.requires.still
           (Import) tt c.requires.some c.push.new.self
-          (c.push.ensures.entries ∙ ap (λ z. z ++ Import ∷ []) c.in_ok-reserve.ensures.entries),
+          (behind _ c.push.ensures.entries c.in_ok-reserve.ensures.entries),
       first-result c.args.self.now i.formula i.reducers i.capacity i.diary (table_of i.books) c.self.view_is
           c.self.invariant c.requires.still c.requires.some c.in_ok-first.first c.take_over.new.self.results.items
           c.in_ok-first.ensures.first,

@@ -1,8 +1,8 @@
-use Rattle.std.proofs.Common.{[], ◌∷◌, ◌++◌, ◌∙◌, ap}
-use Rattle.std.proofs.Common.{false}
+-- the learnt clause is held by the searching thread
+use Rattle.std.proofs.Common.{◌∙◌, ap, false}
 use Rattle.gr_diary.specs.declared.entries.Entry.TheVariants.{Learn}
 use Rattle.gr_bench.specs.Tables.{table_of, ended_if}
-use Rattle.gr_bench.proofs.Pushed.{grown}
+use Rattle.gr_bench.proofs.Pushed.{grown, behind, behind-as}
 use Rattle.gr_bench.proofs.KeptSteps.{next-free, learnt-step}
 use Rattle.gr_bench.proofs.benches.Bench.learn_kept.Goals as goal
 
@@ -19,12 +19,13 @@ invariant_of-self-2 c =
     (c.push.ensures.first ∙ c.in_ok-reserve.ensures.first) (c.push.ensures.close ∙ c.in_ok-reserve.ensures.close)
     c.args.clause c.args.hints c.args.lbd c.is_empty-ends.result c.requires.able c.is_empty-ends.ensures
     (c.end_if.ensures ∙ ap (ended_if c.is_empty-ends.result) c.in_ok-keep.ensures.ok)
-    (c.push.ensures.entries ∙ ap (λ z. z ++ Learn c.args.clause c.args.hints c.args.lbd false ∷ []) c.in_ok-reserve.ensures.entries)
-    (c.push.ensures.left ∙ (λ i. c.in_ok-reserve.ensures.left i ++ c.new-left.ensures i ∷ []))
+    (behind _ c.push.ensures.entries c.in_ok-reserve.ensures.entries)
+    (behind-as c.push.ensures.left c.in_ok-reserve.ensures.left c.new-left.ensures)
 
 pub returns-clause-ok : goal.returns-clause-ok
 returns-clause-ok c =
     let i = c.self.inside in
-    grown c.args.self.now i.formula i.reducers i.capacity i.diary c.self.view_is c.self.invariant.tells c.requires.still
+    grown c.args.self.now i.formula i.reducers i.capacity i.diary c.self.view_is c.self.invariant.tells
+    c.requires.still
     (Learn c.args.clause c.args.hints c.args.lbd false) c.requires.able tt c.push.new.self
-    (c.push.ensures.entries ∙ ap (λ z. z ++ Learn c.args.clause c.args.hints c.args.lbd false ∷ []) c.in_ok-reserve.ensures.entries)
+    (behind _ c.push.ensures.entries c.in_ok-reserve.ensures.entries)

@@ -1,9 +1,10 @@
+-- the learnt clause is on offer, and what it drives out is not
 use Rattle.std.proofs.Common.{[], ◌∷◌, ◌++◌, ◌∙◌, ap, true, length, filter, arith, ◌<◌, ◌≡◌, ◌^◌, List}
 use Rattle.gr_logic.specs.Literals.{Literal}
 use Rattle.gr_diary.specs.declared.entries.Entry.TheVariants.{Learn}
 use Rattle.gr_bench.specs.Lone.{is_lone}
 use Rattle.gr_bench.specs.Tables.{table_of, offered}
-use Rattle.gr_bench.proofs.Pushed.{grown, unchanged}
+use Rattle.gr_bench.proofs.Pushed.{grown, unchanged, behind}
 use Rattle.gr_bench.proofs.KeptSteps.{next-free}
 use Rattle.gr_bench.proofs.OfferSteps.{next-new, next-no_offer, work-held, clause-short, offered-step}
 use Rattle.gr_bench.proofs.benches.Bench.learn_offered.Goals as goal
@@ -60,13 +61,13 @@ invariant_of-self-2 c =
       len = length c.lits.result.now;
     }) z (table_of i.books)) c.in_ok-copy.ensures)
     (c.in_ok-left.ensures ∙ ap (filter (is_lone i.books.holders)) c.replaced-replaced.ensures)
-    (c.push.ensures.entries
-    ∙ ap (λ z. z ++ Learn c.args.clause c.args.hints c.args.lbd true ∷ []) c.in_ok-reserve.ensures.entries)
-    (c.push.ensures.left ∙ ap (λ z. z ++ c.in_ok-left.left ∷ []) c.in_ok-reserve.ensures.left)
+    (behind _ c.push.ensures.entries c.in_ok-reserve.ensures.entries)
+    (behind _ c.push.ensures.left c.in_ok-reserve.ensures.left)
 
 pub returns-clause-ok : goal.returns-clause-ok
 returns-clause-ok c =
     let i = c.self.inside in
-    grown c.args.self.now i.formula i.reducers i.capacity i.diary c.self.view_is c.self.invariant.tells c.requires.still
+    grown c.args.self.now i.formula i.reducers i.capacity i.diary c.self.view_is c.self.invariant.tells
+    c.requires.still
     (Learn c.args.clause c.args.hints c.args.lbd true) c.requires.able tt c.push.new.self
-    (c.push.ensures.entries ∙ ap (λ z. z ++ Learn c.args.clause c.args.hints c.args.lbd true ∷ []) c.in_ok-reserve.ensures.entries)
+    (behind _ c.push.ensures.entries c.in_ok-reserve.ensures.entries)

@@ -1,7 +1,8 @@
+-- the unit clause is a result, held by its reducer
 use Rattle.std.proofs.Common.{[], ◌∷◌, ◌++◌, ◌∙◌, ap, refl, None}
 use Rattle.gr_diary.specs.declared.entries.Entry.TheVariants as entry
 use Rattle.gr_bench.specs.Tables.{table_of}
-use Rattle.gr_bench.proofs.Pushed.{grown}
+use Rattle.gr_bench.proofs.Pushed.{grown, behind, behind-as}
 use Rattle.gr_bench.proofs.KeptSteps.{next-free, next-no_result}
 use Rattle.gr_bench.proofs.SharedSteps.{shared-step}
 use Rattle.gr_bench.proofs.benches.Bench.share_unit.Goals as goal
@@ -24,13 +25,13 @@ invariant_of-self-2 c =
     (c.push.ensures.first ∙ c.in_ok-reserve.ensures.first) (c.push.ensures.close ∙ c.in_ok-reserve.ensures.close)
     c.args.actor c.args.lit c.args.hints (record { old = None; id = c.in_ok-id.id; clause = c.in_ok-clause.clause })
     c.requires.reducer c.requires.able refl c.in_ok-id.ensures.id c.in_ok-clause.ensures c.in_ok-share.ensures.ok
-    (c.push.ensures.entries
-    ∙ ap (λ z. z ++ entry.Unit c.args.actor c.args.lit c.args.hints ∷ []) c.in_ok-reserve.ensures.entries)
-    (c.push.ensures.left ∙ (λ i. c.in_ok-reserve.ensures.left i ++ c.new-left.ensures i ∷ []))
+    (behind _ c.push.ensures.entries c.in_ok-reserve.ensures.entries)
+    (behind-as c.push.ensures.left c.in_ok-reserve.ensures.left c.new-left.ensures)
 
 pub returns-clause-ok : goal.returns-clause-ok
 returns-clause-ok c =
     let i = c.self.inside in
-    grown c.args.self.now i.formula i.reducers i.capacity i.diary c.self.view_is c.self.invariant.tells c.requires.still
+    grown c.args.self.now i.formula i.reducers i.capacity i.diary c.self.view_is c.self.invariant.tells
+    c.requires.still
     (entry.Unit c.args.actor c.args.lit c.args.hints) c.requires.able tt c.push.new.self
-    (c.push.ensures.entries ∙ ap (λ z. z ++ entry.Unit c.args.actor c.args.lit c.args.hints ∷ []) c.in_ok-reserve.ensures.entries)
+    (behind _ c.push.ensures.entries c.in_ok-reserve.ensures.entries)

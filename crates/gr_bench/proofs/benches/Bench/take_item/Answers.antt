@@ -1,7 +1,8 @@
+-- the best item goes from the work list to the reducer
 use Rattle.std.proofs.Common.{[], ◌∷◌, ◌++◌, ◌∙◌, ap}
 use Rattle.gr_diary.specs.declared.entries.Entry.TheVariants.{Take}
 use Rattle.gr_bench.specs.Tables.{table_of}
-use Rattle.gr_bench.proofs.Pushed.{grown}
+use Rattle.gr_bench.proofs.Pushed.{grown, behind, behind-as}
 use Rattle.gr_bench.proofs.GivenSteps.{item-held, item-clause, item-free, best-offer, given-step, some-work}
 use Rattle.gr_bench.proofs.benches.Bench.take_item.Goals as goal
 
@@ -30,15 +31,16 @@ invariant_of-self-2 c =
     c.self.invariant c.args.item c.requires.best c.requires.still c.push.new.self (table_of c.take.new.self)
     (c.push.ensures.first ∙ c.in_ok-reserve.ensures.first) (c.push.ensures.close ∙ c.in_ok-reserve.ensures.close)
     c.args.actor c.requires.able c.in_ok-clause.ensures.ok
-    (c.push.ensures.entries ∙ ap (λ z. z ++ Take c.args.actor ∷ []) c.in_ok-reserve.ensures.entries)
-    (c.push.ensures.left ∙ (λ i. c.in_ok-reserve.ensures.left i ++ c.new-left.ensures i ∷ []))
+    (behind _ c.push.ensures.entries c.in_ok-reserve.ensures.entries)
+    (behind-as c.push.ensures.left c.in_ok-reserve.ensures.left c.new-left.ensures)
 
 pub returns-clause-ok : goal.returns-clause-ok
 returns-clause-ok c =
     let i = c.self.inside in
-    grown c.args.self.now i.formula i.reducers i.capacity i.diary c.self.view_is c.self.invariant.tells c.requires.still
+    grown c.args.self.now i.formula i.reducers i.capacity i.diary c.self.view_is c.self.invariant.tells
+    c.requires.still
     (Take c.args.actor) c.requires.able (some-work _ c.args.item c.requires.best) c.push.new.self
-    (c.push.ensures.entries ∙ ap (λ z. z ++ Take c.args.actor ∷ []) c.in_ok-reserve.ensures.entries)
+    (behind _ c.push.ensures.entries c.in_ok-reserve.ensures.entries)
 
 pub returns-clause-best : goal.returns-clause-best
 returns-clause-best c =
