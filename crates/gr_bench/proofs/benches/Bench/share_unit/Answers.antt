@@ -3,8 +3,7 @@ use Rattle.std.proofs.Common.{[], ◌∷◌, ◌++◌, ◌∙◌, ap, refl, None
 use Rattle.gr_diary.specs.declared.entries.Entry.TheVariants as entry
 use Rattle.gr_bench.specs.Tables.{table_of}
 use Rattle.gr_bench.proofs.Pushed.{grown, behind, behind-as}
-use Rattle.gr_bench.proofs.KeptSteps.{next-free, next-no_result}
-use Rattle.gr_bench.proofs.SharedSteps.{shared-step}
+use Rattle.gr_bench.proofs.KeptSteps.{next-free, next-no_result, shared-step}
 use Rattle.gr_bench.proofs.benches.Bench.share_unit.Goals as goal
 
 pub share-requires-clause-held : goal.share-requires-clause-held
