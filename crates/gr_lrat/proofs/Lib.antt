@@ -10,3 +10,4 @@ pub mod Cutting
 pub mod Written
 pub mod Digits
 pub mod RoundTrip
+pub mod GoingOn
