@@ -178,13 +178,6 @@ reads-memory limits taken (Some text) (Some rest) came within =
       through = tt;
     }
 
--- want of memory before anything was taken
-pub reads-unread : (limits : Limits) (l : Option (List ℕ)) →
-    Reads limits (Err errors.OutOfMemory) l l
-reads-unread limits None = tt
-reads-unread limits (Some text) =
-    record { taken = []; split = refl; within = omega arith; answers = tt; through = tt }
-
 taken-all : (limits : Limits) (p n : Stand) → p.place ≡ at_start limits.bytes → (goes : Goes p n) →
     taken n.place ≡ length goes.takes.piece
 taken-all limits p n start goes =
@@ -218,6 +211,9 @@ counted-bytes limits res p n start goes full =
 pub counted-at : (bytes : ℕ) (res : Result Cnf ReadError) (p q l r : ℕ) →
     CountsBytes bytes res p q → l ≡ p → r ≡ q → CountsBytes bytes res l r
 counted-at bytes res p q l r h a b = rw (a, b) h
+
+pub calm-at : (p q l r : ℕ) → q ≡ p → l ≡ p → r ≡ q → r ≡ l
+calm-at p q l r same a b = rw (a, b) same
 
 known-few : (ended : Bool) (count : ℕ) → count + (if ended then 1 else 0) ≤ count + 1
 known-few true count = omega arith

@@ -50,22 +50,11 @@ fn line_error(failed: ScanError) -> LineError
 /// Reads a proof log line by line. After an error it may only be dropped.
 ///
 /// `H` is always `Held`, as it is for a `Scanner`.
+#[derive(Drop)]
 pub struct LineReader<'a, S: Source, H: Drop = Held> {
     scanner: Scanner<'a, S, H>,
     alloc: Global,
     ended: bool,
-}
-
-impl<'a, S: Source, H: Drop> Drop for LineReader<'a, S, H> {
-    fn drop(self)
-        ensures { self.exit.0.now ≡ self.entry.scanner.source.now }
-    {
-        let LineReader {
-            scanner: _,
-            alloc: _,
-            ended: _,
-        } = self;
-    }
 }
 
 impl<'a, S: Source> LineReader<'a, S> {

@@ -1,6 +1,6 @@
 -- what is found of a log as its lines come
 use Rattle.std.proofs.Common.{◌≡◌, ◌∙◌, sym, ap, subst, refl, ℕ, ◌+◌, ◌-◌, ◌^◌, ◌≤◌, ◌↔◌, Bool, true, false, List, [], ◌∷◌, cond, inl, inr, arith}
-use Rattle.std.specs.Prelude.{Option, Some, None, Result, Ok, Err, map}
+use Rattle.std.specs.Prelude.{Option, Some, None, Result, Ok, Err, OnOk, map}
 use Rattle.std.specs.Option.{option_map}
 use Rattle.gr_io.specs.Pieces.{Rose}
 use Rattle.gr_text.specs.Places.{Place, Takes, at_start, known, taken, limit_of}
@@ -12,7 +12,7 @@ use Rattle.gr_logic.proofs.LogSound.{accepts-sound}
 use Rattle.gr_lrat.specs.Lines.{Spelled}
 use Rattle.gr_lrat.specs.Logs.{LogEnd, AtEnd, AtBadLine, AtRatHint, AtLimit, LogRead, NumberedLine, with_line, ends, log_read, log_outcome, LogOutcome, Verified, NoEmptyClause, Refused, TooLong, outcome_at, refused_or, outcome_from}
 use Rattle.gr_lrat.specs.Stages.{log_to_come}
-use Rattle.gr_lrat.specs.Answers.{Answers, KeepsLimit}
+use Rattle.gr_lrat.specs.Answers.{Answers, IsTold, KeepsLimit}
 use Rattle.gr_lrat.specs.declared.readers.Numbered.{Numbered}
 use Rattle.gr_lrat.specs.declared.readers.LineError.{LineError}
 use Rattle.gr_lrat.specs.declared.readers.LineError.TheVariants as errors
@@ -24,7 +24,10 @@ use Rattle.gr_check.specs.declared.refusals.Refused.TheVariants as refusals
 use Rattle.gr_check.specs.declared.refusals.Finish.{Finish}
 use Rattle.gr_check.specs.declared.refusals.Finish.TheVariants as finishes
 use Rattle.gr_top.specs.CheckedLogs.{Shown, shown, lines_of, Finds, IsAllRead, IsProof, LogGives}
-use Rattle.gr_top.specs.Statuses.{finish_status, unread_status, refused_status}
+use Rattle.gr_top.specs.declared.statuses.Status.{Status}
+use Rattle.gr_top.specs.declared.statuses.Stop.{Stop}
+use Rattle.gr_top.specs.declared.statuses.Stop.TheVariants as stops
+use Rattle.gr_top.specs.Statuses.{IsWellRead, finish_status, stop_status, unread_status, refused_status}
 use Rattle.gr_top.proofs.FoundLogs.{IsOutcome, IsWhole, told-outcome, finds, finds-nothing, all-read, takes-few}
 
 -- what comes of the lines to come, from a state on
@@ -37,12 +40,14 @@ Extends f s = (later : List Line) → ((n : ℕ) → refusal_from n s later ≡ 
     → (state_after s later).refuted ≡ true → (lines : List Line) × Accepts f lines
 
 -- the lines so far were accepted and led to this state, and those to come decide the log, for every limit that
--- has room for what is known
+-- has room for what is known; no more is known than may be looked at
 pub record Follows (f : Cnf) (told : Option (List ℕ)) (s : LogState) (last : Bool) (p : Place) (l : Option (List ℕ)) : Type 0 where
   pub extends : Extends f s
   pub outcome : (limit : ℕ) → known p ≤ limit → option_map (λ text. log_outcome f text limit) told
       ≡ option_map (outcome_read s) (log_to_come limit last p l)
   pub takes : Takes (at_start (2 ^ 40)) told p l
+  pub limit : limit_of p ≡ 2 ^ 40
+  pub within : known p ≤ 2 ^ 40
 
 -- at the front all of the log is to come
 front-reads : (limit : ℕ) (told : Option (List ℕ))
@@ -51,6 +56,10 @@ front-reads limit None = refl
 front-reads limit (Some text) =
     let all : limit - 0 ≡ limit = omega arith in
     ap (λ most. Some (log_read most text)) (sym all)
+
+-- nothing is known at the front
+front-known : (p : Place) → p ≡ at_start (2 ^ 40) → known p ≤ 2 ^ 40
+front-known p front = let none : known p ≡ 0 = ap known front in omega (arith, none)
 
 pub begins : (f : Cnf) (told : Option (List ℕ)) (p : Place) (s : LogState) → p ≡ at_start (2 ^ 40) → s ≡ opening f
     → Follows f told s false p told
@@ -66,6 +75,8 @@ begins f told p s front start = record {
       ∙ ap (λ v. option_map (outcome_read v) (log_to_come limit false (at_start (2 ^ 40)) told)) (sym start)
       ∙ ap (λ q. option_map (outcome_read s) (log_to_come limit false q told)) (sym front);
   takes = takes-nothing (at_start (2 ^ 40)) p told (ap taken front);
+  limit = ap limit_of front;
+  within = front-known p front;
 }
 
 -- an accepted line begins what is to come
@@ -81,11 +92,12 @@ pub record ReadsOn (answer : Result (Option Numbered) LineError) (last : Bool) (
     (last' : Bool) (q : Place) (r : Option (List ℕ)) : Type 0 where
   pub answers : Answers answer last p l last' q r
   pub grows : known p ≤ known q
+  pub limit : limit_of q ≡ 2 ^ 40
   pub within : known q ≤ 2 ^ 40
   pub takes : Takes p l q r
 
 -- no more is known than may be looked at
-pub still-within : (p q : Place) → limit_of p ≡ 2 ^ 40 → known p ≤ 2 ^ 40 → KeepsLimit p q → known q ≤ 2 ^ 40
+still-within : (p q : Place) → limit_of p ≡ 2 ^ 40 → known p ≤ 2 ^ 40 → KeepsLimit p q → known q ≤ 2 ^ 40
 still-within p q limit within keeps =
     let before : known p ≤ limit_of p = omega (arith, limit, within) in
     omega (arith, keeps.within before, keeps.limit, limit)
@@ -96,6 +108,7 @@ pub reads-on : {answer : Result (Option Numbered) LineError} {last last' : Bool}
 reads-on {p = p} {q = q} answers keeps limit within takes = record {
   answers = answers;
   grows = keeps.grows;
+  limit = keeps.limit ∙ limit;
   within = still-within p q limit within keeps;
   takes = takes;
 }
@@ -123,6 +136,8 @@ line-follows f told s t last last' p q l r x follows reads none after = record {
       line-decides f told s last last' p q l r x None limit follows reads room none
       ∙ ap (λ v. option_map (outcome_read v) (log_to_come limit last' q r)) (sym after);
   takes = takes-then (at_start (2 ^ 40)) p q told l r follows.takes reads.takes;
+  limit = reads.limit;
+  within = reads.within;
 }
 
 -- where a line is refused, the log is
@@ -256,28 +271,51 @@ fault-found f told s last p q l r end outcome follows grows within takes ended i
 -- the next line was not read
 pub unread-gives : (failed : LineError) (f : Cnf) (s : LogState) (last last' : Bool) (p q : Place) (l r : Option (List ℕ))
     (old : Shown) (faults : ℕ)
-    → Follows f old.text s last p l → ReadsOn (Err failed) last p l last' q r → limit_of q ≡ 2 ^ 40
+    → Follows f old.text s last p l → ReadsOn (Err failed) last p l last' q r
     → (failed ≡ errors.ReadFault → Rose old.faults faults) → LogGives (unread_status failed) f old (shown r faults)
-unread-gives (errors.BadLine n) f s last last' p q l r old faults follows reads limit rose =
+unread-gives (errors.BadLine n) f s last last' p q l r old faults follows reads rose =
     fault-found f old.text s last p q l r (AtBadLine n) _ follows reads.grows reads.within reads.takes
     (reads.answers (2 ^ 40) reads.within) refl (λ rest. tt)
-unread-gives (errors.RatHint n) f s last last' p q l r old faults follows reads limit rose =
+unread-gives (errors.RatHint n) f s last last' p q l r old faults follows reads rose =
     fault-found f old.text s last p q l r (AtRatHint n) _ follows reads.grows reads.within reads.takes
     (reads.answers (2 ^ 40) reads.within) refl (λ rest. tt)
-unread-gives (errors.TooLong n) f s last last' p q l r old faults follows reads limit rose =
-    let all : taken q ≡ 2 ^ 40 = omega (arith, reads.answers.1, limit) in
+unread-gives (errors.TooLong n) f s last last' p q l r old faults follows reads rose =
+    let all : taken q ≡ 2 ^ 40 = omega (arith, reads.answers.1, reads.limit) in
     fault-found f old.text s last p q l r (AtLimit n) _ follows reads.grows reads.within reads.takes
     (subst (λ most. log_to_come most last p l ≡ option_map (λ _. ends (AtLimit n)) r) all reads.answers.0) refl (λ rest. tt)
-unread-gives errors.ReadFault f s last last' p q l r old faults follows reads limit rose =
+unread-gives errors.ReadFault f s last last' p q l r old faults follows reads rose =
     let all_known : known q ≡ taken q = rw reads.answers.1 (omega arith) in
     let before : known p ≤ taken q = omega (arith, all_known, reads.grows) in
     let takes = takes-then (at_start (2 ^ 40)) p q old.text l r follows.takes reads.takes in
     let outcome = end-decides (taken q) f old.text s last p l r (AtLimit q.last) (TooLong q.last) follows before reads.answers.0 refl in
     (rose refl, finds-nothing f old.text q r q.last takes reads.within outcome)
-unread-gives errors.OutOfMemory f s last last' p q l r old faults follows reads limit rose =
+unread-gives errors.OutOfMemory f s last last' p q l r old faults follows reads rose =
     takes-few old.text q r (takes-then (at_start (2 ^ 40)) p q old.text l r follows.takes reads.takes) reads.within
 
 -- what rose from a later count on rose from an earlier one
 pub rose-since : (a b c : ℕ) → a ≤ b → Rose b c → Rose a c
 rose-since a b c grows (inl rose) = inl (omega (arith, grows, rose))
 rose-since a b c grows (inr full) = inr full
+
+-- where the next line was not read, a status comes only where no read failed
+pub calm-unread : (failed : LineError) (result : Result Status Stop) (a b c : ℕ) → result ≡ unread_status failed
+    → (IsTold failed → c ≡ b) → b ≡ a → OnOk result (c ≡ a)
+calm-unread (errors.BadLine n) result a b c is calm before = rw is (calm tt ∙ before)
+calm-unread (errors.RatHint n) result a b c is calm before = rw is (calm tt ∙ before)
+calm-unread (errors.TooLong n) result a b c is calm before = rw is (calm tt ∙ before)
+calm-unread errors.ReadFault result a b c is calm before = rw is tt
+calm-unread errors.OutOfMemory result a b c is calm before = rw is tt
+
+-- what holds holds where a status is told
+pub on-ok : {P : Type 0} (result : Result Status Stop) → P → OnOk result P
+on-ok (Ok status) p = p
+on-ok (Err stopped) p = tt
+
+pub both-calm : {P Q : Type 0} (result : Result Status Stop) → P → OnOk result Q → OnOk result (P × Q)
+both-calm (Ok status) p q = (p, q)
+both-calm (Err stopped) p q = tt
+
+-- a check that comes to nothing is not well read
+pub stopped-unread : (stopped : Stop) (status : Status) → status ≡ stop_status stopped → IsWellRead status → ⊥
+stopped-unread stops.ReadFault status is well = subst IsWellRead is well
+stopped-unread stops.OutOfMemory status is well = subst IsWellRead is well

@@ -1,7 +1,7 @@
 use Rattle.std.proofs.Common.{◌≡◌, ◌∙◌, ap, rules, sym}
 use Rattle.gr_dimacs.specs.Reads.{Reads}
 use Rattle.gr_text.specs.Places.{at_start}
-use Rattle.gr_dimacs.proofs.Decided.{counted-at, counted-bytes, decided-reads, reads-at}
+use Rattle.gr_dimacs.proofs.Decided.{calm-at, counted-at, counted-bytes, decided-reads, reads-at}
 use Rattle.gr_text.specs.Stands.{stand}
 use Rattle.gr_dimacs.proofs.readers.read.Goals as goal
 
@@ -34,7 +34,7 @@ returns-clause-counts g c =
     (ap g.S.Source.taken (sym c.over-scanner.ensures.source)) (search rules)
 
 pub returns-clause-calm : goal.returns-clause-calm
-returns-clause-calm g c =
-    λ told.
-    let later : g.S.Source.faults c.over-scanner.new.source ≡ g.S.Source.faults c.read_scanned.new.scanner.source.now = ? in
-    later ∙ c.read_scanned.ensures.calm told ∙ ap g.S.Source.faults c.over-scanner.ensures.source
+returns-clause-calm g c = λ told.
+    let faults = g.S.Source.faults in
+    calm-at (faults c.over-scanner.result.source.now) (faults c.read_scanned.new.scanner.source.now) _ _
+    (c.read_scanned.ensures.calm told) (ap faults (sym c.over-scanner.ensures.source)) (search rules)
