@@ -27,7 +27,7 @@ returns-then-is_byte-clause-tells g c =
     ws) else Misspelt in
     let letter : is_byte 100 q.held.token ≡ true = rw c.token-2.ensures at (sym c.is_byte.ensures
     ∙ c.if-is_byte.true) in
-    let first = rw c.token.ensures at c.count-first.ensures in
+    let first = rw c.token.ensures at c.count-first.ensures.count in
     let counts : c.is_some.result ≡ is_count word = c.is_some.ensures
     ∙ numbered word c.count-first.result first in
     tells_then c.read_deletion.result (λ read. spelling_of read.spelt) (λ read. read.end) whole later
@@ -51,7 +51,7 @@ returns-else-is_byte-clause-tells g c =
     c.id_of_count.result Misspelt in
     let letter : is_byte 100 q.held.token ≡ false = rw c.token-2.ensures at (sym c.is_byte.ensures ∙
     c.if-is_byte.false) in
-    let first = rw c.token.ensures at c.count-first.ensures in
+    let first = rw c.token.ensures at c.count-first.ensures.count in
     let id_is : c.id_of_count.result ≡ id_of word = rw first at c.id_of_count.ensures
     ∙ counted_id word in
     tells_then c.read_addition.result (λ read. spelling_of read.spelt) (λ read. read.end) whole later
