@@ -290,4 +290,17 @@ mod tests {
         assert_eq!(rt; sink.text(), b"1 0\n".as_slice());
         Ok(())
     }
+
+    #[test]
+    fn a_hundred_thousand_bytes_are_written_and_read(rt: HostRuntime) -> Result<(), Fail> {
+        let alloc = rt.alloc();
+        let text = Vec::from_elem(alloc, b'7', 100_000)?;
+        let mut sink = MemSink::new(alloc, Vec::new(alloc), 0);
+        sink.write(text.as_slice())?;
+        assert!(rt; sink.text() == text.as_slice());
+        let mut source = MemSource::new(text, 100_000, Vec::new(alloc));
+        let mut buf = Vec::from_elem(alloc, 0u8, 200_000)?;
+        assert_eq!(rt; source.read(buf.as_mut_slice())?, 100_000);
+        Ok(())
+    }
 }

@@ -11,3 +11,4 @@ pub mod Written
 pub mod Digits
 pub mod RoundTrip
 pub mod GoingOn
+pub mod ByLines

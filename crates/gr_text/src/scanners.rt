@@ -61,6 +61,17 @@ impl<'a, S: Source, H: Drop> Drop for Scanner<'a, S, H> {
     }
 }
 
+impl<'a, S: Source, H: Drop> Scanner<'a, S, H> {
+    /// Lets the source go, and gives back the bytes that are held.
+    pub fn into_held(self) -> H
+        ensures held { result ≡ self.entry.held }
+        ensures source { self.exit.0.now ≡ self.entry.source.now }
+    {
+        let Scanner { source: _, held } = self;
+        held
+    }
+}
+
 impl<'a, S: Source> Scanner<'a, S> {
     /// A scanner of what the source has left, which takes at most `max_bytes` bytes of it. It never
     /// fails, since it asks for no memory: the first read asks for a buffer of 64 KB, which grows only

@@ -12,7 +12,8 @@ use Rattle.gr_logic.proofs.LogSound.{accepts-sound}
 use Rattle.gr_lrat.specs.Lines.{Spelled}
 use Rattle.gr_lrat.specs.Logs.{LogEnd, AtEnd, AtBadLine, AtRatHint, AtLimit, LogRead, NumberedLine, with_line, ends, log_read, log_outcome, LogOutcome, Verified, NoEmptyClause, Refused, TooLong, outcome_at, refused_or, outcome_from}
 use Rattle.gr_lrat.specs.Stages.{log_to_come}
-use Rattle.gr_lrat.specs.Answers.{Answers, IsTold, KeepsLimit}
+use Rattle.gr_text.specs.Stands.{Stand}
+use Rattle.gr_lrat.specs.Answers.{Answers, GoesOn, IsTold, KeepsLimit}
 use Rattle.gr_lrat.specs.declared.readers.Numbered.{Numbered}
 use Rattle.gr_lrat.specs.declared.readers.LineError.{LineError}
 use Rattle.gr_lrat.specs.declared.readers.LineError.TheVariants as errors
@@ -41,7 +42,8 @@ Extends f s = (later : List Line) → ((n : ℕ) → refusal_from n s later ≡ 
 
 -- the lines so far were accepted and led to this state, and those to come decide the log, for every limit that
 -- has room for what is known; no more is known than may be looked at
-pub record Follows (f : Cnf) (told : Option (List ℕ)) (s : LogState) (last : Bool) (p : Place) (l : Option (List ℕ)) : Type 0 where
+pub record Follows (f : Cnf) (told : Option (List ℕ)) (s : LogState) (last : Bool) (p : Place)
+    (l : Option (List ℕ)) : Type 0 where
   pub extends : Extends f s
   pub outcome : (limit : ℕ) → known p ≤ limit → option_map (λ text. log_outcome f text limit) told
       ≡ option_map (outcome_read s) (log_to_come limit last p l)
@@ -65,7 +67,8 @@ pub begins : (f : Cnf) (told : Option (List ℕ)) (p : Place) (s : LogState) →
     → Follows f told s false p told
 begins f told p s front start = record {
   extends = λ later accepted refuted.
-      let same : refusal_from 1 (opening f) later ≡ None = subst (λ v. refusal_from 1 v later ≡ None) start (accepted 1) in
+      let same : refusal_from 1 (opening f) later ≡ None =
+      subst (λ v. refusal_from 1 v later ≡ None) start (accepted 1) in
       let found : (state_after (opening f) later).refuted ≡ true =
       subst (λ v. (state_after v later).refuted ≡ true) start refuted in
       (later, (same, found));
@@ -114,20 +117,25 @@ reads-on {p = p} {q = q} answers keeps limit within takes = record {
 }
 
 -- where a line comes next, its cause decides, or else the lines behind it
-line-decides : (f : Cnf) (told : Option (List ℕ)) (s : LogState) (last last' : Bool) (p q : Place) (l r : Option (List ℕ)) (x : Numbered)
+line-decides : (f : Cnf) (told : Option (List ℕ)) (s : LogState) (last last' : Bool) (p q : Place)
+    (l r : Option (List ℕ)) (x : Numbered)
     (cause : Option Cause) (limit : ℕ)
-    → Follows f told s last p l → ReadsOn (Ok (Some x)) last p l last' q r → known q ≤ limit → line_cause s x.line ≡ cause
+    → Follows f told s last p l → ReadsOn (Ok (Some x)) last p l last' q r → known q ≤ limit
+        → line_cause s x.line ≡ cause
     → option_map (λ text. log_outcome f text limit) told
-    ≡ option_map (λ later. refused_or x.number cause (outcome_read (after_line s x.line) later)) (log_to_come limit last' q r)
+    ≡ option_map (λ later. refused_or x.number cause (outcome_read (after_line s x.line) later))
+        (log_to_come limit last' q r)
 line-decides f told s last last' p q l r x cause limit follows reads room is =
     let before : known p ≤ limit = omega (arith, reads.grows, room) in
     follows.outcome limit before
     ∙ ap (option_map (outcome_read s)) (reads.answers limit room)
     ∙ map_twice (outcome_read s) (with_line (Spelled x.line) x.number) (log_to_come limit last' q r)
-    ∙ map_same _ (λ later. refused_or x.number cause (outcome_read (after_line s x.line) later)) (log_to_come limit last' q r)
+    ∙ map_same _ (λ later. refused_or x.number cause (outcome_read (after_line s x.line) later))
+        (log_to_come limit last' q r)
     (λ later. ap (λ o. refused_or x.number o (outcome_read (after_line s x.line) later)) is)
 
-pub line-follows : (f : Cnf) (told : Option (List ℕ)) (s t : LogState) (last last' : Bool) (p q : Place) (l r : Option (List ℕ)) (x : Numbered)
+line-follows : (f : Cnf) (told : Option (List ℕ)) (s t : LogState) (last last' : Bool) (p q : Place)
+    (l r : Option (List ℕ)) (x : Numbered)
     → Follows f told s last p l → ReadsOn (Ok (Some x)) last p l last' q r
     → line_cause s x.line ≡ None → t ≡ after_line s x.line → Follows f told t last' q r
 line-follows f told s t last last' p q l r x follows reads none after = record {
@@ -140,8 +148,18 @@ line-follows f told s t last last' p q l r x follows reads none after = record {
   within = reads.within;
 }
 
+-- a line was read and accepted
+pub line-on : (f : Cnf) (told : Option (List ℕ)) (s t : LogState) (last last' : Bool) (old new : Stand) (x : Numbered)
+    → Follows f told s last old.place old.left → Answers (Ok (Some x)) last old.place old.left last' new.place new.left
+    → GoesOn old new → line_cause s x.line ≡ None → t ≡ after_line s x.line
+    → Follows f told t last' new.place new.left
+line-on f told s t last last' old new x follows answers goes none after =
+    line-follows f told s t last last' old.place new.place old.left new.left x follows
+    (reads-on answers goes.keeps follows.limit follows.within goes.takes) none after
+
 -- where a line is refused, the log is
-refused-outcome : (f : Cnf) (told : Option (List ℕ)) (s : LogState) (last last' : Bool) (p q : Place) (l r : Option (List ℕ)) (x : Numbered)
+refused-outcome : (f : Cnf) (told : Option (List ℕ)) (s : LogState) (last last' : Bool) (p q : Place)
+    (l r : Option (List ℕ)) (x : Numbered)
     (why : Cause)
     → Follows f told s last p l → ReadsOn (Ok (Some x)) last p l last' q r
     → line_cause s x.line ≡ Some why → Finds f (Refused x.number why) told r
@@ -170,7 +188,8 @@ refused-gives refusals.OutOfMemory f s last last' p q l r x old faults follows r
     takes-few old.text q r (takes-then (at_start (2 ^ 40)) p q old.text l r follows.takes reads.takes) reads.within
 
 -- where no line comes next, the log ends so
-end-decides : (limit : ℕ) (f : Cnf) (told : Option (List ℕ)) (s : LogState) (last : Bool) (p : Place) (l r : Option (List ℕ))
+end-decides : (limit : ℕ) (f : Cnf) (told : Option (List ℕ)) (s : LogState) (last : Bool) (p : Place)
+    (l r : Option (List ℕ))
     (end : LogEnd) (outcome : LogOutcome)
     → Follows f told s last p l → known p ≤ limit → log_to_come limit last p l ≡ option_map (λ _. ends end) r
     → outcome_at s end ≡ outcome → IsOutcome limit told f outcome
@@ -189,7 +208,8 @@ end-refuted s (AtBadLine n) e = absurd (cc)
 end-refuted s (AtRatHint n) e = absurd (cc)
 end-refuted s (AtLimit n) e = absurd (cc)
 
-not-refused : (n : ℕ) (cause : Option Cause) (later : LogOutcome) → refused_or n cause later ≡ Verified → (cause ≡ None) × (later ≡ Verified)
+not-refused : (n : ℕ) (cause : Option Cause) (later : LogOutcome) → refused_or n cause later ≡ Verified
+    → (cause ≡ None) × (later ≡ Verified)
 not-refused n None later e = (refl, e)
 not-refused n (Some why) later e = absurd (cc)
 
@@ -199,12 +219,14 @@ proof-lines [] end n s e = (refl, end-refuted s end e)
 proof-lines (x ∷ xs) end n s e =
     let split = not-refused x.number (line_cause s x.line) (outcome_from (after_line s x.line) xs end) e in
     let later = proof-lines xs end (n + 1) (after_line s x.line) split.1 in (
-      ap (λ cause. first_cause n cause (refusal_from (n + 1) (after_line s x.line) (map (λ x. x.line) xs))) split.0 ∙ later.0,
+      ap (λ cause. first_cause n cause (refusal_from (n + 1) (after_line s x.line)
+          (map (λ x. x.line) xs))) split.0 ∙ later.0,
       later.1,
     )
 
 -- a log that has this outcome is a proof
-is-proof : (old new : Option (List ℕ)) (f : Cnf) → Finds f Verified old new → ((lines : List Line) × Accepts f lines) → IsProof f old new
+is-proof : (old new : Option (List ℕ)) (f : Cnf) → Finds f Verified old new
+    → ((lines : List Line) × Accepts f lines) → IsProof f old new
 is-proof None None f outcome found = record {
   outcome = tt;
   lines = found.0;
@@ -236,7 +258,8 @@ end-found f told s last last' p q l r outcome follows reads is whole =
     finds f outcome told q r takes reads.within
     (end-decides (2 ^ 40) f told s last p l r AtEnd outcome follows before (reads.answers (2 ^ 40) reads.within) is)
     (λ text rest given left. all-read f outcome told q r takes
-    (end-decides (known q) f told s last p l r AtEnd outcome follows reads.grows (reads.answers (known q) (omega arith)) is)
+    (end-decides (known q) f told s last p l r AtEnd outcome follows reads.grows
+    (reads.answers (known q) (omega arith)) is)
     whole text rest given left)
 
 -- the log was read to its end, and each line was accepted
@@ -258,7 +281,8 @@ finish-gives finishes.NoEmptyClause f s last last' p q l r old faults follows re
     end-found f old.text s last last' p q l r NoEmptyClause follows reads at_end tt
 
 -- a misspelt line, or the limit, ends the log so
-fault-found : (f : Cnf) (told : Option (List ℕ)) (s : LogState) (last : Bool) (p q : Place) (l r : Option (List ℕ)) (end : LogEnd)
+fault-found : (f : Cnf) (told : Option (List ℕ)) (s : LogState) (last : Bool) (p q : Place)
+    (l r : Option (List ℕ)) (end : LogEnd)
     (outcome : LogOutcome)
     → Follows f told s last p l → known p ≤ known q → known q ≤ 2 ^ 40 → Takes p l q r
     → log_to_come (2 ^ 40) last p l ≡ option_map (λ _. ends end) r → outcome_at s end ≡ outcome
@@ -269,7 +293,8 @@ fault-found f told s last p q l r end outcome follows grows within takes ended i
     (end-decides (2 ^ 40) f told s last p l r end outcome follows before ended is) (λ text rest given left. all rest)
 
 -- the next line was not read
-pub unread-gives : (failed : LineError) (f : Cnf) (s : LogState) (last last' : Bool) (p q : Place) (l r : Option (List ℕ))
+pub unread-gives : (failed : LineError) (f : Cnf) (s : LogState) (last last' : Bool) (p q : Place)
+    (l r : Option (List ℕ))
     (old : Shown) (faults : ℕ)
     → Follows f old.text s last p l → ReadsOn (Err failed) last p l last' q r
     → (failed ≡ errors.ReadFault → Rose old.faults faults) → LogGives (unread_status failed) f old (shown r faults)
@@ -282,12 +307,14 @@ unread-gives (errors.RatHint n) f s last last' p q l r old faults follows reads 
 unread-gives (errors.TooLong n) f s last last' p q l r old faults follows reads rose =
     let all : taken q ≡ 2 ^ 40 = omega (arith, reads.answers.1, reads.limit) in
     fault-found f old.text s last p q l r (AtLimit n) _ follows reads.grows reads.within reads.takes
-    (subst (λ most. log_to_come most last p l ≡ option_map (λ _. ends (AtLimit n)) r) all reads.answers.0) refl (λ rest. tt)
+    (subst (λ most. log_to_come most last p l ≡ option_map (λ _. ends (AtLimit n)) r)
+    all reads.answers.0) refl (λ rest. tt)
 unread-gives errors.ReadFault f s last last' p q l r old faults follows reads rose =
     let all_known : known q ≡ taken q = rw reads.answers.1 (omega arith) in
     let before : known p ≤ taken q = omega (arith, all_known, reads.grows) in
     let takes = takes-then (at_start (2 ^ 40)) p q old.text l r follows.takes reads.takes in
-    let outcome = end-decides (taken q) f old.text s last p l r (AtLimit q.last) (TooLong q.last) follows before reads.answers.0 refl in
+    let outcome = end-decides (taken q) f old.text s last p l r (AtLimit q.last)
+        (TooLong q.last) follows before reads.answers.0 refl in
     (rose refl, finds-nothing f old.text q r q.last takes reads.within outcome)
 unread-gives errors.OutOfMemory f s last last' p q l r old faults follows reads rose =
     takes-few old.text q r (takes-then (at_start (2 ^ 40)) p q old.text l r follows.takes reads.takes) reads.within
@@ -311,9 +338,9 @@ pub on-ok : {P : Type 0} (result : Result Status Stop) → P → OnOk result P
 on-ok (Ok status) p = p
 on-ok (Err stopped) p = tt
 
-pub both-calm : {P Q : Type 0} (result : Result Status Stop) → P → OnOk result Q → OnOk result (P × Q)
-both-calm (Ok status) p q = (p, q)
-both-calm (Err stopped) p q = tt
+pub both-calm : (P Q : Type 0) (result : Result Status Stop) → P → OnOk result Q → OnOk result (P × Q)
+both-calm P Q (Ok status) p q = (p, q)
+both-calm P Q (Err stopped) p q = tt
 
 -- a check that comes to nothing is not well read
 pub stopped-unread : (stopped : Stop) (status : Status) → status ≡ stop_status stopped → IsWellRead status → ⊥

@@ -83,4 +83,5 @@ pub returns-in-Ok-End-clause-calm : goal.returns-in-Ok-End-clause-calm
 returns-in-Ok-End-clause-calm g c = λ told. c.in-Ok-End.ensures.calm tt ∙ c.pieces.invariant.draws.calm
 
 pub returns-in-Err-next_piece-clause-calm : goal.returns-in-Err-next_piece-clause-calm
-returns-in-Err-next_piece-clause-calm g c = λ told. c.in-Err-next_piece.ensures.calm told ∙ c.pieces.invariant.draws.calm
+returns-in-Err-next_piece-clause-calm g c = λ told.
+    c.in-Err-next_piece.ensures.calm told ∙ c.pieces.invariant.draws.calm

@@ -1,6 +1,6 @@
 use Rattle.std.proofs.Common.{◌≡◌, ◌≤◌, ◌∙◌, refl, arith}
 use Rattle.gr_top.specs.CheckedLogs.{shown}
-use Rattle.gr_top.proofs.JudgedLogs.{reads-on, begins, line-follows, finish-gives, unread-gives, calm-unread, on-ok, refused-gives, rose-since}
+use Rattle.gr_top.proofs.JudgedLogs.{reads-on, begins, line-on, finish-gives, unread-gives, calm-unread, on-ok, refused-gives, rose-since}
 use Rattle.gr_top.proofs.checks.check_lines.Goals as goal
 
 pub lines-init : goal.lines-init
@@ -16,13 +16,22 @@ lines-init g c =
 pub lines-preserved : goal.lines-preserved
 lines-preserved g c =
     let i = c.lines.invariant in
-    let goes = c.next_line.ensures.goes in
     record {
       same = c.next_line.ensures.same ∙ i.same;
-      follows = line-follows c.args.formula.now _ c.lines.checker c.line.new.self c.lines.last
-          c.next_line.new.ended _ _ _ _ c.in-Ok-Some.numbered i.follows
-          (reads-on (rw c.in-Ok-Some.field-0-is at c.in-Ok-Some.ensures.answers) goes.keeps i.follows.limit
-          i.follows.within goes.takes) c.in-Ok-line.ensures.ok c.in-Ok-line.ensures.after;
+      follows = line-on _ _ _ c.line.new.self _ _ _ _ c.in-Ok-Some.numbered i.follows
+          (rw c.in-Ok-Some.field-0-is at c.in-Ok-Some.ensures.answers) c.next_line.ensures.goes
+          c.in-Ok-line.ensures.ok c.in-Ok-line.ensures.after;
+      calm = c.in-Ok-Some.ensures.calm tt ∙ i.calm;
+    }
+
+pub lines-preserved-in-Ok-line : goal.lines-preserved-in-Ok-line
+lines-preserved-in-Ok-line g c =
+    let i = c.lines.invariant in
+    record {
+      same = c.next_line.ensures.same ∙ i.same;
+      follows = line-on _ _ _ c.line.new.self _ _ _ _ c.in-Ok-Some.numbered i.follows
+          (rw c.in-Ok-Some.field-0-is at c.in-Ok-Some.ensures.answers) c.next_line.ensures.goes
+          c.in-Ok-line.ensures.ok c.in-Ok-line.ensures.after;
       calm = c.in-Ok-Some.ensures.calm tt ∙ i.calm;
     }
 

@@ -50,7 +50,8 @@ pub returns-then-is_at_line_end-clause-goes : goal.returns-then-is_at_line_end-c
 returns-then-is_at_line_end-clause-goes g c =
     let q = c.reach.new.self.held in
     rw c.end_line-line.ensures.place
-    (goes-at _ _ _ c.reach.ensures.goes (same-line q (c.in-Ok-true.ensures.ok.some c.in-Ok-true.field-0-test)) refl refl)
+    (goes-at _ _ _ c.reach.ensures.goes
+    (same-line q (c.in-Ok-true.ensures.ok.some c.in-Ok-true.field-0-test)) refl refl)
 
 pub returns-in-Err-word-clause-goes : goal.returns-in-Err-word-clause-goes
 returns-in-Err-word-clause-goes g c = goes-then _ _ _ c.reach.ensures.goes c.word.ensures.goes
