@@ -108,6 +108,7 @@ mod tests {
     use std::test::Fail;
 
     const CNF: &str = "glucored_test_cnf.tmp";
+
     const LOG: &str = "glucored_test_log.tmp";
 
     /// Writes the file of this name anew.

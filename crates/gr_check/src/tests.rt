@@ -254,10 +254,7 @@ fn refute_in_part(alloc: Global, formula: &Formula, lines: &[Line]) -> bool
 fn a_refused_line_spoils_nothing(rt: HostRuntime) -> Result<(), Fail> {
     let alloc = rt.alloc();
     let formula = square(&rt, alloc)?;
-    let log = log_of(
-        alloc,
-        "5 2 0 1 0 / 5 1 0 1 2 0 / 5 d 5 5 0 / 6 0 5 3 4 0",
-    )?;
+    let log = log_of(alloc, "5 2 0 1 0 / 5 1 0 1 2 0 / 5 d 5 5 0 / 6 0 5 3 4 0")?;
     assert!(rt; refute_in_part(alloc, &formula, log.all()));
     Ok(())
 }

@@ -295,7 +295,9 @@ fn writes_additions_and_deletions(rt: HostRuntime) -> Result<(), Fail> {
 }
 
 #[test]
-fn a_thousand_lines_of_three_hundred_sizes_are_written_and_read(rt: HostRuntime) -> Result<(), Fail> {
+fn a_thousand_lines_of_three_hundred_sizes_are_written_and_read(
+    rt: HostRuntime,
+) -> Result<(), Fail> {
     let alloc = rt.alloc();
     let mut sink = TextSink::new(alloc);
     let mut printer = Printer::new(&mut sink);

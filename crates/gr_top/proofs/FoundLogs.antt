@@ -106,7 +106,7 @@ marks-stop text s zero stop = absurd stop
 marks-stop [] s (suc room) stop = omega arith
 marks-stop (b ∷ text) s (suc room) stop =
     let later : length text < room = marks-stop text (beyond s b) room (stop-behind s b (marks
-        (beyond s b) room text) stop) in
+    (beyond s b) room text) stop) in
     omega (arith, later)
 
 line-end : (said : Spelling) (n : ℕ) (later : LogRead) → (with_line said n later).end ≡ AtEnd → later.end ≡ AtEnd

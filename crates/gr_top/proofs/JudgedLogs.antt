@@ -121,17 +121,17 @@ line-decides : (f : Cnf) (told : Option (List ℕ)) (s : LogState) (last last' :
     (l r : Option (List ℕ)) (x : Numbered)
     (cause : Option Cause) (limit : ℕ)
     → Follows f told s last p l → ReadsOn (Ok (Some x)) last p l last' q r → known q ≤ limit
-        → line_cause s x.line ≡ cause
+    → line_cause s x.line ≡ cause
     → option_map (λ text. log_outcome f text limit) told
     ≡ option_map (λ later. refused_or x.number cause (outcome_read (after_line s x.line) later))
-        (log_to_come limit last' q r)
+    (log_to_come limit last' q r)
 line-decides f told s last last' p q l r x cause limit follows reads room is =
     let before : known p ≤ limit = omega (arith, reads.grows, room) in
     follows.outcome limit before
     ∙ ap (option_map (outcome_read s)) (reads.answers limit room)
     ∙ map_twice (outcome_read s) (with_line (Spelled x.line) x.number) (log_to_come limit last' q r)
     ∙ map_same _ (λ later. refused_or x.number cause (outcome_read (after_line s x.line) later))
-        (log_to_come limit last' q r)
+    (log_to_come limit last' q r)
     (λ later. ap (λ o. refused_or x.number o (outcome_read (after_line s x.line) later)) is)
 
 line-follows : (f : Cnf) (told : Option (List ℕ)) (s t : LogState) (last last' : Bool) (p q : Place)
@@ -314,7 +314,7 @@ unread-gives errors.ReadFault f s last last' p q l r old faults follows reads ro
     let before : known p ≤ taken q = omega (arith, all_known, reads.grows) in
     let takes = takes-then (at_start (2 ^ 40)) p q old.text l r follows.takes reads.takes in
     let outcome = end-decides (taken q) f old.text s last p l r (AtLimit q.last)
-        (TooLong q.last) follows before reads.answers.0 refl in
+    (TooLong q.last) follows before reads.answers.0 refl in
     (rose refl, finds-nothing f old.text q r q.last takes reads.within outcome)
 unread-gives errors.OutOfMemory f s last last' p q l r old faults follows reads rose =
     takes-few old.text q r (takes-then (at_start (2 ^ 40)) p q old.text l r follows.takes reads.takes) reads.within

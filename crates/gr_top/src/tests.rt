@@ -424,6 +424,9 @@ fn takes_a_clause_and_a_lemma_of_a_thousand_literals(rt: HostRuntime) -> Result<
         &mut out,
     );
     assert_eq!(rt; code(&report.status), 1);
-    assert_eq!(rt; out.text(), b"s NOT VERIFIED\nc log: NoEmptyClause\n".as_slice());
+    assert_eq!(rt;
+        out.text(),
+        b"s NOT VERIFIED\nc log: NoEmptyClause\n".as_slice()
+    );
     Ok(())
 }

@@ -132,9 +132,9 @@ pub returns-in-Err-clause-calm : goal.returns-in-Err-clause-calm
 returns-in-Err-clause-calm g c = λ told. c.in-Err.ensures.calm told ∙ c.tokens.invariant.draws.calm
 
 pub returns-then-is_byte-clause-calm : goal.returns-then-is_byte-clause-calm
-returns-then-is_byte-clause-calm g c = λ told. 
+returns-then-is_byte-clause-calm g c = λ told.
     c.close_list.ensures.calm told ∙ c.in-Ok-Token.ensures.calm tt ∙ c.tokens.invariant.draws.calm
 
 pub returns-in-Other-clause-calm : goal.returns-in-Other-clause-calm
-returns-in-Other-clause-calm g c = λ told. 
+returns-in-Other-clause-calm g c = λ told.
     c.no_list.ensures.calm told ∙ c.in-Ok-Token.ensures.calm tt ∙ c.tokens.invariant.draws.calm

@@ -17,9 +17,9 @@ pub returns-in-Err-ReadFault-clause-judges : goal.returns-in-Err-ReadFault-claus
 returns-in-Err-ReadFault-clause-judges g c =
     let left = g.A.Source.left in
     let old = sources (left c.args.cnf.now) (g.A.Source.faults c.args.cnf.now)
-        (g.B.Source.left c.args.log.now) (g.B.Source.faults c.args.log.now) in
+    (g.B.Source.left c.args.log.now) (g.B.Source.faults c.args.log.now) in
     let new = sources (left c.read.new.source) (g.A.Source.faults c.read.new.source)
-        (g.B.Source.left c.args.log.now) (g.B.Source.faults c.args.log.now) in
+    (g.B.Source.left c.args.log.now) (g.B.Source.faults c.args.log.now) in
     let reads = rw c.in-Err-ReadFault.field-0-is at c.in-Err-ReadFault.ensures.answer in
     unread-judges old new (c.in-Err-ReadFault.ensures.fault c.in-Err-ReadFault.field-0-is) reads refl
 
@@ -27,9 +27,9 @@ pub returns-in-Err-OutOfMemory-clause-judges : goal.returns-in-Err-OutOfMemory-c
 returns-in-Err-OutOfMemory-clause-judges g c =
     let left = g.A.Source.left in
     let old = sources (left c.args.cnf.now) (g.A.Source.faults c.args.cnf.now)
-        (g.B.Source.left c.args.log.now) (g.B.Source.faults c.args.log.now) in
+    (g.B.Source.left c.args.log.now) (g.B.Source.faults c.args.log.now) in
     let new = sources (left c.read.new.source) (g.A.Source.faults c.read.new.source)
-        (g.B.Source.left c.args.log.now) (g.B.Source.faults c.args.log.now) in
+    (g.B.Source.left c.args.log.now) (g.B.Source.faults c.args.log.now) in
     short-judges old new (rw c.in-Err-OutOfMemory.field-0-is at c.in-Err-OutOfMemory.ensures.answer) refl
 
 pub returns-in-Ok-clause-calm : goal.returns-in-Ok-clause-calm

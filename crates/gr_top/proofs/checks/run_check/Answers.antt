@@ -17,7 +17,7 @@ returns-in-Err-clause-checks g c =
 pub returns-in-Ok-clause-out : goal.returns-in-Ok-clause-out
 returns-in-Ok-clause-out g c is =
     absurd (due-is-no-read-fault c.write_check.result c.in-Ok.due _ _ c.in-Ok.ensures.judges
-        (sym c.ended.ensures.status ∙ is))
+    (sym c.ended.ensures.status ∙ is))
 
 pub returns-in-Ok-clause-calm : goal.returns-in-Ok-clause-calm
 returns-in-Ok-clause-calm g c well = c.in-Ok.ensures.calm
