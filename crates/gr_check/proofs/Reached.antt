@@ -1,9 +1,10 @@
 -- what holds of a state that accepted lines lead to
-use Rattle.std.proofs.Common.{◌≡◌, ◌∙◌, ℕ, ◌+◌, true, List, [], ◌∷◌, ◌++◌, Option, Some, None, refl, ap, subst}
+use Rattle.std.proofs.Common.{◌≡◌, ◌∙◌, ℕ, ◌+◌, true, List, [], ◌∷◌, ◌++◌, Option, Some, None, Result, Ok, Err, OnOk, OnErr, refl, sym, ap, subst}
 use Rattle.gr_logic.specs.Formulas.{Cnf}
 use Rattle.gr_logic.specs.Log.{Cause, LogState, opening, line_cause, after_line, first_cause, refusal_from, state_after}
 use Rattle.gr_logic.specs.declared.lines.Line.{Line}
 use Rattle.gr_logic.proofs.LogSound.{accepts-sound}
+use Rattle.gr_check.specs.declared.refusals.Refused.{Refused}
 use Rattle.gr_check.specs.Reached.{IsReached, OpeningIsReached, AcceptedLinesLeadOn, ReachedStatesRefute}
 
 -- no line is refused, neither the first one nor a later one
@@ -41,3 +42,10 @@ leads-on f s x reached is = record {
 pub reached-refutes : ReachedStatesRefute
 reached-refutes f s reached refuted =
     accepts-sound f reached.lines (reached.accepted, ap (λ t. t.refuted) reached.state ∙ refuted)
+
+-- what a line leaves is reached, whether it was refused or not
+pub line-reached : (f : Cnf) (s t : LogState) (x : Line) (result : Result (Unit {0}) Refused) → IsReached f s
+    → OnOk result (line_cause s x ≡ None) → OnOk result (t ≡ after_line s x) → OnErr result (t ≡ s)
+    → IsReached f t
+line-reached f s t x (Ok done) reached ok after err = subst (IsReached f) (sym after) (leads-on f s x reached ok)
+line-reached f s t x (Err why) reached ok after err = subst (IsReached f) (sym err) reached

@@ -202,7 +202,7 @@ fn keeps_the_other_clauses_while_many_leave(rt: HostRuntime) -> Result<(), Fail>
 fn chain(alloc: Global, last: i32) -> Result<Clause, Fail> {
     let mut clause = Clause::new(alloc);
     for var in 1..last {
-        clause.push(lit(0 - var)?)?;
+        clause.push(lit(var)?.negate())?;
     }
     clause.push(lit(last)?)?;
     Ok(clause)
@@ -222,7 +222,7 @@ fn takes_a_thousand_clauses_of_three_hundred_sizes(rt: HostRuntime) -> Result<()
     }
     let mut none = Clause::new(alloc);
     for var in 1..301i32 {
-        none.push(lit(0 - var)?)?;
+        none.push(lit(var)?.negate())?;
     }
     push(&rt, &mut formula, none)?;
     hints.push(1_001)?;

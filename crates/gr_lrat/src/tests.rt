@@ -304,7 +304,7 @@ fn a_thousand_lines_of_three_hundred_sizes_are_written_and_read(
     for id in 1..1_001u64 {
         let mut clause = Clause::new(alloc);
         for var in 1..(id % 300) as i32 + 1 {
-            clause.push(Lit::new(0 - var).ok_or("no literal")?)?;
+            clause.push(Lit::new(var).ok_or("no literal")?.negate())?;
         }
         let mut hints = Ids::new(alloc);
         hints.push(id)?;
