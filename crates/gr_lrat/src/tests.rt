@@ -1,9 +1,10 @@
 // Logs that are read and written, compared with tables made by hand.
-ghost use Rattle.std.specs.Prelude.{◌≡◌, ◌≤◌, ◌+◌, ℕ, IfErr};
+ghost use Rattle.std.specs.Prelude.{◌≡◌, ◌≤◌, ◌+◌, ℕ, IfErr, IfOk};
+ghost use Rattle.gr_logic.specs.Log.{HasIds, IsId};
 ghost use Rattle.gr_lrat.specs.Answers.{IsAnswer};
 
 use crate::{LineError, LineReader, Numbered, write_line};
-use gr_io::{MemSource, Source, TextSink, TextSource};
+use gr_io::{MemSource, Sink, Source, TextSink, TextSource};
 use gr_logic::{Clause, Ids, Line, Lit};
 use gr_text::Printer;
 use std::alloc::Global;
@@ -294,23 +295,38 @@ fn writes_additions_and_deletions(rt: HostRuntime) -> Result<(), Fail> {
     Ok(())
 }
 
+/// An addition of this id, of so many literals, with the id as its hint.
+fn addition(alloc: Global, id: u64, count: i32) -> Result<Line, Fail>
+    requires { IsId id }
+    ensures { IfOk result (λ line. HasIds line) }
+{
+    let mut clause = Clause::new(alloc);
+    for var in 1..count.min(1_000) + 1 {
+        clause.push(Lit::new(var).ok_or("no literal")?.negate())?;
+    }
+    let mut hints = Ids::new(alloc);
+    hints.push(id)?;
+    Ok(Line::Add { id, clause, hints })
+}
+
+/// Writes a thousand additions of up to three hundred literals.
+fn write_many<K: Sink>(alloc: Global, sink: &mut K) -> Result<(), Fail> {
+    let mut printer = Printer::new(sink);
+    for id in 1..1_001u64 {
+        let line = addition(alloc, id, (id % 300) as i32)?;
+        write_line(&line, &mut printer)?;
+    }
+    printer.flush()?;
+    Ok(())
+}
+
 #[test]
 fn a_thousand_lines_of_three_hundred_sizes_are_written_and_read(
     rt: HostRuntime,
 ) -> Result<(), Fail> {
     let alloc = rt.alloc();
     let mut sink = TextSink::new(alloc);
-    let mut printer = Printer::new(&mut sink);
-    for id in 1..1_001u64 {
-        let mut clause = Clause::new(alloc);
-        for var in 1..(id % 300) as i32 + 1 {
-            clause.push(Lit::new(var).ok_or("no literal")?.negate())?;
-        }
-        let mut hints = Ids::new(alloc);
-        hints.push(id)?;
-        write_line(&Line::Add { id, clause, hints }, &mut printer)?;
-    }
-    printer.flush()?;
+    write_many(alloc, &mut sink)?;
     let mut source = TextSource::new(Vec::from_slice(alloc, sink.text())?);
     let mut reader = LineReader::new(alloc, &mut source, ENDLESS)?;
     for line in 1..1_001u64 {
