@@ -20,16 +20,21 @@ fn main(rt: HostRuntime) -> ExitCode {
     ExitCode::from(status)
 }
 
-/// Runs the program over the process's words and files, and answers the exit status.
+/// Runs the program over the process's words, and answers the exit status.
 fn call(rt: HostRuntime) -> Result<u8, OutOfMemory> {
     let words = read_words(rt)?;
-    let names = files(rt.alloc(), &words)?;
+    call_with(rt, &words)
+}
+
+/// Runs the program over these words and the files that they name, and answers the exit status.
+fn call_with(rt: HostRuntime, words: &Words) -> Result<u8, OutOfMemory> {
+    let names = files(rt.alloc(), words)?;
     let log_name = names.log.clone()?;
     let mut cnf = FileSource::new(rt, names.cnf);
     let mut log = FileSource::new(rt, log_name);
     let mut out = OutSink::new(rt);
     let mut proof = FileSink::new(rt, names.log);
-    let status = exit_status(rt.alloc(), &words, &mut cnf, &mut log, &mut out, &mut proof);
+    let status = exit_status(rt.alloc(), words, &mut cnf, &mut log, &mut out, &mut proof);
     Ok(status)
 }
 
@@ -94,4 +99,61 @@ fn words_of(alloc: Global, texts: &[String]) -> Result<Words, OutOfMemory>
         words.push(text.as_str())?;
     }
     Ok(words)
+}
+
+#[cfg(test)]
+mod tests {
+    use super::*;
+    use std::fs;
+    use std::test::Fail;
+
+    const CNF: &str = "glucored_test_cnf.tmp";
+
+    const LOG: &str = "glucored_test_log.tmp";
+
+    /// Writes the file of this name anew.
+    fn write(rt: HostRuntime, name: &str, text: &[u8]) -> Result<(), Fail> {
+        let mut file = FileSink::new(rt, String::from_str(rt.alloc(), name)?);
+        file.write(text)?;
+        Ok(())
+    }
+
+    /// The exit status of this command on the two files.
+    fn status_of(rt: HostRuntime, command: &str) -> Result<u8, Fail> {
+        let mut words = Words::new(rt.alloc());
+        words.push(command)?;
+        words.push(CNF)?;
+        words.push(LOG)?;
+        Ok(call_with(rt, &words)?)
+    }
+
+    #[test]
+    fn the_named_files_are_read_and_written(rt: HostRuntime) -> Result<(), Fail> {
+        let formula = b"p cnf 1 2\n1 0\n-1 0\n";
+        write(rt, CNF, formula)?;
+        assert_eq!(rt; status_of(rt, "solve")?, 20, "solve");
+        assert_eq!(rt; status_of(rt, "check")?, 0, "check");
+        let mut buf = [0u8; 32];
+        let mut log = FileSource::new(rt, String::from_str(rt.alloc(), LOG)?);
+        let count = log.read(&mut buf)?;
+        assert_eq!(rt; buf.get(..count), Some(b"3 0 2 1 0\n".as_slice()));
+        let mut cnf = FileSource::new(rt, String::from_str(rt.alloc(), CNF)?);
+        let count = cnf.read(&mut buf)?;
+        assert_eq!(rt; buf.get(..count), Some(formula.as_slice()));
+        let rows: [(&[u8], &str, u8); 5] = [
+            (b"p cnf 1 1\n1 0\n", "solve", 10),
+            (b"p cnf 1 1\n1 0\n", "check", 1),
+            (b"p cnf 1 1\n2 0\n", "solve", 3),
+            (b"p cnf 1 1\n2 0\n", "check", 3),
+            (formula, "prove", 2),
+        ];
+        for (text, command, want) in rows {
+            write(rt, CNF, text)?;
+            assert_eq!(rt; status_of(rt, command)?, want, "{command} on {text:?}");
+        }
+        fs::remove_file(&rt, CNF)?;
+        assert_eq!(rt; status_of(rt, "solve")?, 4, "no formula");
+        fs::remove_file(&rt, LOG)?;
+        Ok(())
+    }
 }

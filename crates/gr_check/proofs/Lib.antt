@@ -11,3 +11,4 @@ pub mod Hints
 pub mod Moves
 pub mod Sliding
 pub mod Compactions
+pub mod Reached

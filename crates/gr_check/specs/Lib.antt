@@ -8,3 +8,4 @@ pub mod Entries
 pub mod Checks
 pub mod Deletions
 pub mod WholeLogs
+pub mod Reached

@@ -84,7 +84,7 @@ impl Checker {
     }
 
     /// What the lines so far say of the formula: after `Verified` no assignment satisfies it, by the
-    /// law `accepted_logs_refute`. Takes no memory.
+    /// law `reached_states_refute`, also where lines were refused between. Takes no memory.
     pub fn finish(&self) -> Finish
         ensures { (result ≡ Finish.Verified) ↔ (self.now.refuted ≡ true) }
     {

@@ -5,6 +5,7 @@ mod checker;
 mod compaction;
 mod deletions;
 mod far_ids;
+pub mod laws;
 mod marks;
 mod pool;
 mod refusals;

@@ -1,4 +1,7 @@
 // Whole logs, and what is said of them.
+ghost use Rattle.std.specs.Prelude.{◌≡◌, true};
+ghost use Rattle.gr_logic.specs.Truth.{IsUnsatisfiable};
+
 use crate::{Checker, Finish, Refused, RefusedLine, check_all};
 use gr_logic::{Clause, Formula, Ids, Line, Lit, LogLines};
 use std::alloc::Global;
@@ -12,7 +15,7 @@ fn lit(n: i32) -> Result<Lit, Fail> {
 fn push(rt: &impl Abort, formula: &mut Formula, clause: Clause) -> Result<(), Fail> {
     let vars = formula.vars();
     assert!(rt; clause.lits().iter().all(|lit| lit.var() <= vars));
-    assert!(rt; formula.clauses().len() < 100);
+    assert!(rt; formula.clauses().len() < 2_000);
     formula.push(clause)?;
     Ok(())
 }
@@ -149,21 +152,109 @@ fn passes_over_a_hundred_thousand_hints_that_are_true_already(rt: HostRuntime) -
     Ok(())
 }
 
-#[test]
-fn keeps_the_other_clauses_while_many_leave(rt: HostRuntime) -> Result<(), Fail> {
-    let alloc = rt.alloc();
-    let mut checker = Checker::new(alloc, &square(&rt, alloc)?)?;
-    for id in 5..2_000u64 {
-        let mut hints = Ids::new(alloc);
-        hints.push(1)?;
-        let clause = Clause::from_lits(alloc, &[lit(1)?, lit(2)?])?;
-        checker.line(&Line::Add { id, clause, hints })?;
+/// Adds the clause of these literals under this id.
+fn add(
+    alloc: Global,
+    checker: &mut Checker,
+    id: u64,
+    lits: &[Lit],
+    hints: &[u64],
+) -> Result<(), Fail> {
+    let clause = Clause::from_lits(alloc, lits)?;
+    let mut ids = Ids::new(alloc);
+    for hint in hints {
+        ids.push(*hint)?;
+    }
+    checker.line(&Line::Add {
+        id,
+        clause,
+        hints: ids,
+    })?;
+    Ok(())
+}
+
+/// Adds a clause under each of these ids, which the next line deletes.
+fn come_and_go(alloc: Global, checker: &mut Checker, from: u64, to: u64) -> Result<(), Fail> {
+    for id in from..to {
+        add(alloc, checker, id, &[lit(1)?, lit(2)?], &[1])?;
         let mut ids = Ids::new(alloc);
         ids.push(id)?;
         checker.line(&Line::Delete { id, ids })?;
     }
-    checker.line(&line_of(alloc, "2000 1 0 1 2 0")?)?;
-    checker.line(&line_of(alloc, "2001 0 2000 3 4 0")?)?;
-    assert_eq!(rt; checker.finish(), Finish::Verified);
+    Ok(())
+}
+
+#[test]
+fn keeps_the_other_clauses_while_many_leave(rt: HostRuntime) -> Result<(), Fail> {
+    let alloc = rt.alloc();
+    // Ids that follow the formula's, and ids that are far beyond the number of clauses.
+    for first in [5u64, 1 << 40] {
+        let mut checker = Checker::new(alloc, &square(&rt, alloc)?)?;
+        add(alloc, &mut checker, first, &[lit(1)?], &[1, 2])?;
+        come_and_go(alloc, &mut checker, first + 1, first + 2_000)?;
+        add(alloc, &mut checker, first + 2_000, &[], &[first, 3, 4])?;
+        assert_eq!(rt; checker.finish(), Finish::Verified, "from {first} on");
+    }
+    Ok(())
+}
+
+/// Not each of the variables below the last one, or the last one.
+fn chain(alloc: Global, last: i32) -> Result<Clause, Fail> {
+    let mut clause = Clause::new(alloc);
+    for var in 1..last {
+        clause.push(lit(var)?.negate())?;
+    }
+    clause.push(lit(last)?)?;
+    Ok(clause)
+}
+
+#[test]
+fn takes_a_thousand_clauses_of_three_hundred_sizes(rt: HostRuntime) -> Result<(), Fail> {
+    let alloc = rt.alloc();
+    let mut formula = Formula::new(alloc, 300);
+    let mut hints = Ids::new(alloc);
+    for id in 1..1_001u64 {
+        let last = (id % 300) as i32 + 1;
+        push(&rt, &mut formula, chain(alloc, last)?)?;
+        if id >= 300 && id < 600 {
+            hints.push(id)?;
+        }
+    }
+    let mut none = Clause::new(alloc);
+    for var in 1..301i32 {
+        none.push(lit(var)?.negate())?;
+    }
+    push(&rt, &mut formula, none)?;
+    hints.push(1_001)?;
+    let line = Line::Add {
+        id: 1_002,
+        clause: Clause::new(alloc),
+        hints,
+    };
+    let mut log = LogLines::new(alloc);
+    log.push(line)?;
+    assert_eq!(rt; check_all(alloc, &formula, log.all()), Ok(Finish::Verified));
+    Ok(())
+}
+
+/// Whether the lines that are not refused prove that no assignment satisfies the formula.
+fn refute_in_part(alloc: Global, formula: &Formula, lines: &[Line]) -> bool
+    ensures { result ≡ true → IsUnsatisfiable formula.now.clauses }
+{
+    let Ok(mut checker) = Checker::new(alloc, formula) else {
+        return false;
+    };
+    for line in lines {
+        let _ = checker.line(line);
+    }
+    matches!(checker.finish(), Finish::Verified)
+}
+
+#[test]
+fn a_refused_line_spoils_nothing(rt: HostRuntime) -> Result<(), Fail> {
+    let alloc = rt.alloc();
+    let formula = square(&rt, alloc)?;
+    let log = log_of(alloc, "5 2 0 1 0 / 5 1 0 1 2 0 / 5 d 5 5 0 / 6 0 5 3 4 0")?;
+    assert!(rt; refute_in_part(alloc, &formula, log.all()));
     Ok(())
 }

@@ -5,11 +5,11 @@ use Rattle.gr_io.specs.Pieces.{ComesOff}
 use Rattle.gr_logic.specs.Formulas.{Cnf, IsBounded}
 use Rattle.gr_text.specs.Tokens.{Spot, marks, front, made_known, beyond, Mark}
 use Rattle.gr_text.specs.Places.{at_start, known, taken, limit_of}
-use Rattle.gr_dimacs.specs.Stands.{Stand, Goes}
+use Rattle.gr_text.specs.Stands.{Stand, Goes}
 use Rattle.gr_dimacs.specs.Tokens.{Token, Ending, Whole, Short, tokens_of, ending_of, outside, ending}
 use Rattle.gr_dimacs.specs.Grammar.{word_of, SpellsWords}
 use Rattle.gr_dimacs.specs.Faults.{fault_of, first_fault, verdict, settled, IsWithin}
-use Rattle.gr_dimacs.specs.Reads.{IsLawful, IsFormulaOf, IsReadThrough, DecidesNothing, Reads}
+use Rattle.gr_dimacs.specs.Reads.{CountsBytes, IsLawful, IsFormulaOf, IsReadThrough, IsTooLong, DecidesNothing, Reads}
 use Rattle.gr_dimacs.specs.Texts.{formula_of, result_of, outcome_of_text, Decides}
 use Rattle.gr_dimacs.specs.declared.faults.FaultKind.TheVariants.{TooLong}
 use Rattle.gr_dimacs.specs.declared.faults.GrammarFault.{GrammarFault}
@@ -178,13 +178,6 @@ reads-memory limits taken (Some text) (Some rest) came within =
       through = tt;
     }
 
--- want of memory before anything was taken
-pub reads-unread : (limits : Limits) (l : Option (List ℕ)) →
-    Reads limits (Err errors.OutOfMemory) l l
-reads-unread limits None = tt
-reads-unread limits (Some text) =
-    record { taken = []; split = refl; within = omega arith; answers = tt; through = tt }
-
 taken-all : (limits : Limits) (p n : Stand) → p.place ≡ at_start limits.bytes → (goes : Goes p n) →
     taken n.place ≡ length goes.takes.piece
 taken-all limits p n start goes =
@@ -198,6 +191,29 @@ taken-few limits p n start goes =
     let all = taken-all limits p n start goes in
     let limit : limit_of p.place ≡ limits.bytes = rw start (omega arith) in
     omega (arith, all, goes.keeps.limit, limit)
+
+-- no more bytes were counted than may be looked at, and as many where no more may be taken
+pub counted-bytes : (limits : Limits) (res : Result Cnf ReadError) (p n : Stand) →
+    p.place ≡ at_start limits.bytes → Goes p n → (IsTooLong res → n.place.spare ≡ 0) →
+    CountsBytes limits.bytes res p.count n.count
+counted-bytes limits res p n start goes full =
+    let none : taken p.place ≡ 0 = rw start refl in
+    let limit : limit_of p.place ≡ limits.bytes = rw start (omega arith) in
+    let keeps = goes.keeps in
+    let counts = goes.counts in
+    record {
+      grows = omega (arith, none, counts);
+      few = omega (arith, none, limit, keeps.limit, counts);
+      full = λ long. omega (arith, none, limit, keeps.limit, counts, full long);
+    }
+
+-- the same of what is equal
+pub counted-at : (bytes : ℕ) (res : Result Cnf ReadError) (p q l r : ℕ) →
+    CountsBytes bytes res p q → l ≡ p → r ≡ q → CountsBytes bytes res l r
+counted-at bytes res p q l r h a b = rw (a, b) h
+
+pub calm-at : (p q l r : ℕ) → q ≡ p → l ≡ p → r ≡ q → r ≡ l
+calm-at p q l r same a b = rw (a, b) same
 
 known-few : (ended : Bool) (count : ℕ) → count + (if ended then 1 else 0) ≤ count + 1
 known-few true count = omega arith

@@ -1,28 +1,12 @@
 -- numbers in decimal are read by their value
-use Rattle.std.proofs.Common.{◌≡◌, ◌∙◌, ℕ, suc, ◌+◌, ◌-◌, ◌^◌, ◌≤◌, ◌<◌, Bool, true, false, ◌&&◌, List, [], ◌∷◌, length, refl, ap, arith, rules, nat_eq, nat_le}
+use Rattle.std.proofs.Common.{◌≡◌, ◌∙◌, ℕ, suc, ◌+◌, ◌-◌, ◌^◌, ◌≤◌, ◌<◌, Bool, true, false, ◌&&◌, List, [], ◌∷◌, refl, ap, arith, nat_eq, nat_le}
 use Rattle.std.specs.List.{list_all}
 use Rattle.std.specs.Fmt.{decimal, signed_decimal}
-use Rattle.std.proofs.lemmas.Fmt.{digits_decimal, digits_value-decimal, decimal_nonempty}
-use Rattle.std.proofs.lemmas.Str.Parse.{IsNumeralModel, numerals_by_fold}
 use Rattle.std.proofs.lemmas.Bool.{leb-true}
 use Rattle.std.proofs.lemmas.Grind.{common_steps}
 use Rattle.gr_logic.specs.Literals.{number_of}
-use Rattle.gr_dimacs.specs.Numbers.{Lit, is_digit, value, value_after, is_count, sized, number}
-
--- the grammar's digits and values are those of std
-own : IsNumeralModel (λ ds. list_all is_digit ds ≡ true) (value_after 0)
-own = numerals_by_fold _ (search rules) value_after (search rules)
-
-all-count : (ds : List ℕ) → list_all is_digit ds ≡ true → 0 < length ds → is_count ds ≡ true
-all-count [] all some = absurd (omega arith)
-all-count (d ∷ ds) all some = all
-
-pub decimal-is-count : (n : ℕ) → n < 2 ^ 64 → is_count (decimal n) ≡ true
-decimal-is-count n small =
-    all-count (decimal n) (digits_decimal own n small) (decimal_nonempty n small)
-
-pub value-decimal : (n : ℕ) → n < 2 ^ 64 → value (decimal n) ≡ n
-value-decimal n small = digits_value-decimal own n small
+use Rattle.gr_text.proofs.Digits.{decimal-is-count, value-decimal}
+use Rattle.gr_dimacs.specs.Numbers.{Lit, is_digit, value, is_count, sized, number}
 
 both-true : (a b : Bool) → (a && b) ≡ true → (a ≡ true) × (b ≡ true)
 both-true true b h = (refl, h)

@@ -3,7 +3,7 @@ use Rattle.std.proofs.Common.{◌≡◌, ◌∙◌, ℕ, ◌≤◌, Bool, true, 
 use Rattle.std.specs.Option.{option_map}
 use Rattle.gr_logic.specs.Formulas.{Cnf}
 use Rattle.gr_text.specs.Places.{known, taken, limit_of}
-use Rattle.gr_dimacs.specs.Stands.{Stand}
+use Rattle.gr_text.specs.Stands.{Stand}
 use Rattle.gr_dimacs.specs.Numbers.{number, begins}
 use Rattle.gr_dimacs.specs.Tokens.{Ending, Whole, Short}
 use Rattle.gr_dimacs.specs.Faults.{Verdict, Fine}

@@ -13,8 +13,10 @@ use Rattle.gr_dimacs.specs.Tokens.{outside}
 use Rattle.gr_dimacs.specs.Grammar.{Spells, numbers_of, word_of, p_word, cnf_word}
 use Rattle.gr_dimacs.specs.Canonical.{canonical_text, clause_text, header_text, literal_text}
 use Rattle.gr_dimacs.proofs.Complete.{AllVarsIn, VarsIn, all-vars-in}
-use Rattle.gr_dimacs.proofs.Digits.{decimal-is-count, number-literal, value-decimal}
-use Rattle.gr_dimacs.proofs.Spaced.{HasNoBlank, IsWord, all_marks, ends-whole, marks-feed, marks-space, spot}
+use Rattle.gr_text.proofs.Digits.{decimal-is-count, value-decimal}
+use Rattle.gr_text.proofs.Words.{HasNoBlank, IsWord, spot}
+use Rattle.gr_dimacs.proofs.Digits.{number-literal}
+use Rattle.gr_dimacs.proofs.Spaced.{all_marks, ends-whole, marks-feed, marks-space}
 
 -- the words of a text from a spot on, outside comments
 abbrev words : ℕ → ℕ → Bool → List ℕ → List (List ℕ)

@@ -2,70 +2,25 @@
 use Rattle.std.proofs.Common.{◌≡◌, ◌∙◌, ℕ, zero, suc, ◌+◌, ◌<◌, Bool, true, false, ◌&&◌, List, [], ◌∷◌, ◌++◌, length, refl, arith, ◌⊎◌, inl, inr}
 use Rattle.std.proofs.lemmas.List.{append_assoc, append-nil, length-append}
 use Rattle.gr_text.specs.Tokens.{is_space, is_line_feed, Mark, Word, Break, Stop, Spot, ended, made_known, beyond, marks}
+use Rattle.gr_text.proofs.Words.{IsWord, spot, word_feed, word_space}
+use Rattle.gr_text.proofs.Words.{all_marks as marks_to_end}
 use Rattle.gr_dimacs.specs.Tokens.{Ending, Whole, ending}
-
-abbrev pub spot : ℕ → ℕ → Bool → List ℕ → Spot
-spot line last first word = record { line = line; last = last; first = first; word = word }
 
 -- all marks of a text: there is room for its end
 abbrev pub all_marks : Spot → List ℕ → List Mark
-all_marks s text = marks s (length text + 1) text
-
--- no byte is a blank
-abbrev pub HasNoBlank : List ℕ → Type 0
-HasNoBlank [] = Unit {0}
-HasNoBlank (b ∷ bs) = (is_space b ≡ false) × (is_line_feed b ≡ false) × HasNoBlank bs
-
--- a word has a byte, and no blank
-abbrev pub IsWord : List ℕ → Type 0
-IsWord [] = ⊥
-IsWord (b ∷ bs) = HasNoBlank (b ∷ bs)
-
--- bytes of a word that was begun
-letters : (w text word : List ℕ) (line room : ℕ) (first : Bool) → HasNoBlank w →
-    marks (spot line line first word) (length w + room) (w ++ text) ≡ marks
-    (spot line line first (word ++ w)) room text
-letters [] text word line room first plain =
-    let none : word ++ [] ≡ word = append-nil word in
-    let same : 0 + room ≡ room = omega arith in
-    rw (same, none) refl
-letters (b ∷ w) text word line room first plain =
-    let gap = plain.0 in
-    let feed = plain.1 in
-    let room' : suc (length w) + room ≡ suc (length w + room) = omega arith in
-    rw (room', feed, gap) (letters w text (word ++ b ∷ []) line room first plain.2
-    ∙ rw (append_assoc word (b ∷ []) w) refl)
-
--- a word from its first byte on
-from-first : (b : ℕ) (w text : List ℕ) (line last room : ℕ) (first : Bool) → HasNoBlank (b ∷ w) →
-    marks (spot line last first []) (length (b ∷ w) + room) ((b ∷ w) ++ text) ≡ marks
-    (spot line line first (b ∷ w)) room text
-from-first b w text line last room first plain =
-    let gap = plain.0 in
-    let feed = plain.1 in
-    let room' : suc (length w) + room ≡ suc (length w + room) = omega arith in
-    rw (room', feed, gap) (letters w text (b ∷ []) line room first plain.2)
-
-room-for : (w text : List ℕ) (b : ℕ) → length (w ++ b ∷ text) + 1 ≡ length w + suc (length text + 1)
-room-for w text b = omega (arith, length-append w (b ∷ text))
+all_marks s text = marks_to_end 0 s text
 
 -- a word and a space
 pub marks-space : (w text : List ℕ) (line last : ℕ) (first : Bool) → IsWord w →
     all_marks (spot line last first []) (w ++ 32 ∷ text) ≡ Word line first w ∷ all_marks
     (spot line line (first && false) []) text
-marks-space [] text line last first word = absurd word
-marks-space (b ∷ w) text line last first word =
-    rw (room-for (b ∷ w) text 32)
-    (from-first b w (32 ∷ text) line last (suc (length text + 1)) first word)
+marks-space w text line last first word = word_space 0 w text line last first word
 
 -- a word and a line's end
 pub marks-feed : (w text : List ℕ) (line last : ℕ) (first : Bool) → IsWord w →
     all_marks (spot line last first []) (w ++ 10 ∷ text) ≡ Word line first w ∷ Break
     line ∷ all_marks (spot (line + 1) line true []) text
-marks-feed [] text line last first word = absurd word
-marks-feed (b ∷ w) text line last first word =
-    rw (room-for (b ∷ w) text 10)
-    (from-first b w (10 ∷ text) line last (suc (length text + 1)) first word)
+marks-feed w text line last first word = word_feed 0 w text line last first word
 
 -- a text ends
 pub record EndsWhole (end : Ending) : Type 0 where

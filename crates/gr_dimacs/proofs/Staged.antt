@@ -4,7 +4,7 @@ use Rattle.std.specs.Option.{option_map}
 use Rattle.std.proofs.lemmas.List.{append_assoc}
 use Rattle.gr_logic.specs.Formulas.{Cnf}
 use Rattle.gr_text.specs.Places.{Place, known, taken, limit_of}
-use Rattle.gr_dimacs.specs.Stands.{Stand, Goes}
+use Rattle.gr_text.specs.Stands.{Stand, Goes}
 use Rattle.gr_dimacs.specs.Numbers.{is_count, value}
 use Rattle.gr_dimacs.specs.Tokens.{Ending, Whole, Short}
 use Rattle.gr_dimacs.specs.Grammar.{word_of, p_word, cnf_word}
@@ -23,7 +23,8 @@ use Rattle.gr_dimacs.proofs.Counted.{first_fault-counted}
 use Rattle.gr_dimacs.proofs.Outcome.{outcome-is}
 use Rattle.gr_dimacs.proofs.Header.{same_word-is, count-is-fine}
 use Rattle.gr_dimacs.proofs.Headed.{start}
-use Rattle.gr_dimacs.proofs.Told.{option_map-twice, option_map-same, told-const, goes-then, rose-later}
+use Rattle.gr_dimacs.proofs.Told.{option_map-twice, option_map-same, told-const, rose-later}
+use Rattle.gr_text.proofs.Going.{goes-then}
 
 -- the outcome of the text is that of what comes behind these words
 pub record Staged (limits : Limits) (before : List (List ℕ)) (p q : Stand) : Type 0 where

@@ -1,21 +1,18 @@
 -- what a scanner's marks tell of the tokens
-use Rattle.std.proofs.Common.{◌≡◌, ◌∙◌, ℕ, ◌≤◌, Bool, true, false, ◌&&◌, List, [], ◌∷◌, ◌++◌, refl, sym, ap, arith, if◌then◌else◌, Option, Some, None, inl, inr}
+use Rattle.std.proofs.Common.{◌≡◌, ◌∙◌, ℕ, ◌≤◌, Bool, true, false, ◌&&◌, List, [], ◌∷◌, refl, sym, ap, arith, if◌then◌else◌, Option, Some, None, inl, inr}
 use Rattle.std.specs.Option.{option_map}
-use Rattle.std.proofs.lemmas.List.{append_assoc, length-append}
-use Rattle.gr_io.specs.Pieces.{ComesOff, Rose}
+use Rattle.gr_io.specs.Pieces.{Rose}
 use Rattle.gr_text.specs.Tokens.{Mark, Word, Break, Stop, Cut, from_line_end}
-use Rattle.gr_text.specs.Places.{Place, Takes, known, taken, limit_of, coming, between}
-use Rattle.gr_text.specs.Scans.{Gives, Closes, Fails, Keeps, Skips, SkipFails}
+use Rattle.gr_text.specs.Places.{Place, known, taken, limit_of, coming, between}
+use Rattle.gr_text.specs.Scans.{Gives, Closes, Fails, Skips, SkipFails}
 use Rattle.gr_text.specs.declared.scanners.ScanError.{ScanError}
 use Rattle.gr_text.specs.declared.scanners.ScanError.TheVariants as errors
-use Rattle.gr_dimacs.specs.Stands.{Stand, Goes, stand}
+use Rattle.gr_text.specs.Stands.{Stand, Goes}
+use Rattle.gr_text.proofs.Taken.{takes-nothing}
+use Rattle.gr_text.proofs.Going.{Draws, drawn, drawn-goes, draws-none}
 use Rattle.gr_dimacs.specs.Numbers.{begins}
 use Rattle.gr_dimacs.specs.Tokens.{Token, Whole, outside, ending}
 use Rattle.gr_dimacs.specs.Finds.{Read, read_of, told, behind, over, FindFails}
-
--- a reader of this source stands at this place
-abbrev pub stand_at : {S : Type 0} (left : S → Option (List ℕ)) (faults : S → ℕ) → Place → S → Stand
-stand_at left faults place source = stand place (left source) (faults source)
 
 pub option_map-twice : {A B C : Type 0} (f : B → C) (g : A → B) (o : Option A) →
     option_map f (option_map g o) ≡ option_map (λ x. f (g x)) o
@@ -33,50 +30,13 @@ pub told-const : {A : Type 0} (o : A) (limit : ℕ) (s : Stand) →
 told-const o limit s = option_map-twice (λ _. o) _ (coming limit s.place s.left)
     ∙ option_map-twice (λ _. o) _ s.left
 
-came-twice : (a b : List ℕ) (l r k : Option (List ℕ)) → ComesOff a l r → ComesOff b r k →
-    ComesOff (a ++ b) l k
-came-twice a b l r None f g = rw (f, g) refl
-came-twice a b l r (Some x) f g = rw (f, g) (rw (append_assoc a b x) refl)
-
-same-taken : (l : Option (List ℕ)) → ComesOff [] l l
-same-taken None = refl
-same-taken (Some x) = refl
-
--- nothing was taken
-pub takes-none : (p : Place) (l : Option (List ℕ)) → Takes p l p l
-takes-none p l = record { piece = []; count = omega arith; left = same-taken l }
-
-takes-then : (p q n : Stand) → Takes p.place p.left q.place q.left →
-    Takes q.place q.left n.place n.left → Takes p.place p.left n.place n.left
-takes-then p q n a b = record {
-  piece = a.piece ++ b.piece;
-  count = omega (arith, a.count, b.count, length-append a.piece b.piece);
-  left = came-twice a.piece b.piece p.left q.left n.left a.left b.left;
-}
-
--- what a call of the scanner says of its going on
-pub went : (old new : Stand) → Keeps old.place new.place →
-    Takes old.place old.left new.place new.left → old.faults ≤ new.faults → Goes old new
-went old new keeps takes faults = record { keeps = keeps; takes = takes; faults = faults }
-
 -- reading has not gone on yet
 pub goes-start : (p : Stand) → known p.place ≤ limit_of p.place → Goes p p
 goes-start p within = record {
   keeps = record { limit = refl; within = within; grows = omega arith };
-  takes = takes-none p.place p.left;
+  takes = takes-nothing p.place p.place p.left refl;
+  counts = refl;
   faults = omega arith;
-}
-
--- reading went on twice
-pub goes-then : (p q n : Stand) → Goes p q → Goes q n → Goes p n
-goes-then p q n a b = record {
-  keeps = record {
-    limit = b.keeps.limit ∙ a.keeps.limit;
-    within = b.keeps.within;
-    grows = omega (arith, a.keeps.grows, b.keeps.grows);
-  };
-  takes = takes-then p q n a.takes b.takes;
-  faults = omega (arith, a.faults, b.faults);
 }
 
 -- a line's end tells nothing
@@ -214,71 +174,54 @@ fails-later errors.ReadFault p q o a few grows b = (
 )
 fails-later errors.OutOfMemory p q o a few grows b = tt
 
--- no token outside comments was passed from one stand to another
+-- no token outside comments was passed from one stand to another, and no read failed
 pub record Onward (p q : Stand) : Type 0 where
   pub told : SameTold p q
   pub limit : limit_of q.place ≡ limit_of p.place
-  pub takes : Takes p.place p.left q.place q.left
+  pub draws : Draws p q
   pub passed : p.place.passed ≤ q.place.passed
-  pub faults : p.faults ≤ q.faults
 
 pub onward-start : (p : Stand) → Onward p p
 onward-start p = record {
   told = record { same = λ limit h. refl; grows = omega arith };
   limit = refl;
-  takes = takes-none p.place p.left;
+  draws = draws-none p p.place refl;
   passed = omega arith;
-  faults = omega arith;
 }
 
 pub onward-goes : (p q n : Stand) → Onward p q → Goes q n → Goes p n
-onward-goes p q n a b = record {
-  keeps = record {
-    limit = b.keeps.limit ∙ a.limit;
-    within = b.keeps.within;
-    grows = omega (arith, a.told.grows, b.keeps.grows);
-  };
-  takes = takes-then p q n a.takes b.takes;
-  faults = omega (arith, a.faults, b.faults);
-}
-
--- and then the scanner went on
-pub onward-next : (p q n : Stand) → Onward p q → Keeps q.place n.place →
-    Takes q.place q.left n.place n.left → q.faults ≤ n.faults → Goes p n
-onward-next p q n a keeps takes faults =
-    onward-goes p q n a (went q n keeps takes faults)
+onward-goes p q n a b = drawn-goes p q n a.draws a.limit a.told.grows b
 
 -- a line's end was passed
-pub onward-line : (line : ℕ) (p q n : Stand) → Onward p q → Goes q n →
+pub onward-line : (line : ℕ) (p q n : Stand) → Onward p q → Goes q n → n.faults ≡ q.faults →
     q.place.passed ≤ n.place.passed →
     Gives (between q.place) (Break line) q.place q.left n.place n.left → Onward p n
-onward-line line p q n a goes passed gives = record {
+onward-line line p q n a goes calm passed gives = record {
   told = record {
     same = λ limit h. a.told.same limit (omega (arith, goes.keeps.grows))
         ∙ told-line line q n limit h gives;
     grows = omega (arith, a.told.grows, goes.keeps.grows);
   };
   limit = goes.keeps.limit ∙ a.limit;
-  takes = takes-then p q n a.takes goes.takes;
+  draws = drawn p q n a.draws goes calm;
   passed = omega (arith, a.passed, passed);
-  faults = omega (arith, a.faults, goes.faults);
 }
 
 -- a comment was passed
 pub onward-comment : (line : ℕ) (first : Bool) (word : List ℕ) (p q n o : Stand) → Onward p q →
-    Goes q n → Goes n o → q.place.passed ≤ o.place.passed → (first && begins 99 word) ≡ true →
+    Goes q n → n.faults ≡ q.faults → Goes n o → o.faults ≡ n.faults →
+    q.place.passed ≤ o.place.passed → (first && begins 99 word) ≡ true →
     Gives (between q.place) (Word line first word) q.place q.left n.place n.left →
     Skips n.place n.left o.place o.left → Onward p o
-onward-comment line first word p q n o a goes skips passed comment gives passes = record {
+onward-comment line first word p q n o a goes calm skips still passed comment gives passes = record {
   told = record {
     same = λ limit h. a.told.same limit (omega (arith, goes.keeps.grows, skips.keeps.grows))
         ∙ told-skipped line first word q n o limit skips.keeps.grows h comment gives passes;
     grows = omega (arith, a.told.grows, goes.keeps.grows, skips.keeps.grows);
   };
   limit = skips.keeps.limit ∙ goes.keeps.limit ∙ a.limit;
-  takes = takes-then p n o (takes-then p q n a.takes goes.takes) skips.takes;
+  draws = drawn p n o (drawn p q n a.draws goes calm) skips still;
   passed = omega (arith, a.passed, passed);
-  faults = omega (arith, a.faults, goes.faults, skips.faults);
 }
 
 pub comment-is : (first b : Bool) (t w : List ℕ) → first ≡ true → b ≡ begins 99 t → b ≡ true →

@@ -3,7 +3,7 @@ use Rattle.std.proofs.Common.{◌≡◌, ◌∙◌, ℕ, ◌-◌, [], refl, sym,
 use Rattle.std.specs.Option.{option_map}
 use Rattle.gr_logic.specs.Formulas.{Cnf}
 use Rattle.gr_text.specs.Places.{at_start, known, taken, limit_of}
-use Rattle.gr_dimacs.specs.Stands.{Stand, Goes}
+use Rattle.gr_text.specs.Stands.{Stand, Goes}
 use Rattle.gr_dimacs.specs.Building.{Building}
 use Rattle.gr_dimacs.specs.Answers.{Answers}
 use Rattle.gr_dimacs.specs.Texts.{text_told, outcome_behind, outcome_of_text, Headed, HeaderFails, Decides}

@@ -4,7 +4,7 @@ use Rattle.std.specs.Option.{option_map}
 use Rattle.gr_io.specs.Pieces.{Rose}
 use Rattle.gr_logic.specs.Formulas.{Cnf}
 use Rattle.gr_text.specs.Places.{known, taken, limit_of}
-use Rattle.gr_dimacs.specs.Stands.{Stand}
+use Rattle.gr_text.specs.Stands.{Stand}
 use Rattle.gr_dimacs.specs.Building.{Building, outcome, concluded, end_of}
 use Rattle.gr_dimacs.specs.Finds.{Read, told}
 use Rattle.gr_dimacs.specs.declared.faults.FaultKind.TheVariants.{TooLong}

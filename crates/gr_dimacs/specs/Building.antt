@@ -1,5 +1,5 @@
 -- a formula as it is read
-use Rattle.std.specs.Prelude.{◌≡◌, ◌≤◌, ◌<◌, ◌+◌, ◌-◌, ℕ, Bool, true, false, not, ◌&&◌, nat_lt, min, if◌then◌else◌, List, [], ◌∷◌, ◌++◌, length, Result, Ok, Err}
+use Rattle.std.specs.Prelude.{◌≡◌, ◌≤◌, ◌<◌, ◌+◌, ◌-◌, ◌^◌, ℕ, Bool, true, false, not, ◌&&◌, nat_lt, min, if◌then◌else◌, List, [], ◌∷◌, ◌++◌, length, Result, Ok, Err}
 use Rattle.gr_logic.specs.Literals.{Literal}
 use Rattle.gr_logic.specs.Formulas.{Cnf, VarsUpTo}
 use Rattle.gr_dimacs.specs.Numbers.{Number, Zero, Lit, Other, number, begins}
@@ -17,7 +17,7 @@ use Rattle.gr_dimacs.specs.declared.numerals.Numeral.TheVariants as numerals
 pub record IsSized (size : ℕ) (positive : Bool) (n : Number) : Type 0 where
   pub value : ℕ
   pub some : 0 < value
-  pub capped : size ≡ min value 1_000_000_000_000
+  pub capped : size ≡ min value (2 ^ 63)
   pub number : n ≡ Lit (record { index = value - 1; positive = positive })
 
 -- what the code makes of a token is what the grammar makes of it

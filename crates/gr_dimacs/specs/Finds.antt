@@ -6,7 +6,7 @@ use Rattle.gr_text.specs.Tokens.{Mark}
 use Rattle.gr_text.specs.Places.{known, taken, coming}
 use Rattle.gr_text.specs.declared.scanners.ScanError.{ScanError}
 use Rattle.gr_text.specs.declared.scanners.ScanError.TheVariants as errors
-use Rattle.gr_dimacs.specs.Stands.{Stand}
+use Rattle.gr_text.specs.Stands.{Stand}
 use Rattle.gr_dimacs.specs.Tokens.{Token, Ending, Whole, Short, outside, ending}
 use Rattle.gr_dimacs.specs.declared.tokens.Found.{Found}
 use Rattle.gr_dimacs.specs.declared.tokens.Found.TheVariants as founds

@@ -2,7 +2,7 @@
 use Rattle.std.specs.Prelude.{◌≡◌, ◌≤◌, ◌⊎◌, ℕ, true, false, List, Result, Ok, Err}
 use Rattle.gr_io.specs.Pieces.{Rose}
 use Rattle.gr_text.specs.Places.{taken, limit_of}
-use Rattle.gr_dimacs.specs.Stands.{Stand}
+use Rattle.gr_text.specs.Stands.{Stand}
 use Rattle.gr_dimacs.specs.Numbers.{value, is_count}
 use Rattle.gr_dimacs.specs.Tokens.{Whole, Short}
 use Rattle.gr_dimacs.specs.Finds.{Heads, EndsIn}

@@ -4,7 +4,6 @@ pub mod Grammar
 pub mod Faults
 pub mod Reads
 pub mod Laws
-pub mod Stands
 pub mod Finds
 pub mod Heads
 pub mod Building

@@ -24,6 +24,34 @@ pub record IsLawful (limits : Limits) : Type 0 where
   pub literals : limits.literals ≤ program_limits.literals
   pub bytes : limits.bytes ≤ program_limits.bytes
 
+-- the text is at fault: neither a failed read nor want of memory is told
+abbrev pub IsTold : ReadError → Type 0
+IsTold (errors.Grammar g) = Unit {0}
+IsTold errors.ReadFault = ⊥
+IsTold errors.OutOfMemory = ⊥
+
+-- a formula or a fault of the text is told
+abbrev pub IsSettled : {T : Type 0} → Result T ReadError → Type 0
+IsSettled (Ok x) = Unit {0}
+IsSettled (Err failed) = IsTold failed
+
+-- the text is too long
+abbrev pub IsLong : ReadError → Type 0
+IsLong (errors.Grammar g) = g.kind ≡ TooLong
+IsLong errors.ReadFault = ⊥
+IsLong errors.OutOfMemory = ⊥
+
+-- it is told that the text is too long
+abbrev pub IsTooLong : {T : Type 0} → Result T ReadError → Type 0
+IsTooLong (Ok x) = ⊥
+IsTooLong (Err failed) = IsLong failed
+
+-- no more bytes were taken than may be looked at, and just as many where the text is too long
+pub record CountsBytes (bytes : ℕ) (answer : Result Cnf ReadError) (old new : ℕ) : Type 0 where
+  pub grows : old ≤ new
+  pub few : new ≤ old + bytes
+  pub full : IsTooLong answer → new ≡ old + bytes
+
 -- the text spells this formula, and nothing in it is at fault
 pub record IsFormulaOf (limits : Limits) (text : List ℕ) (f : Cnf) : Type 0 where
   pub spells : Spells text f

@@ -5,7 +5,7 @@ use Rattle.gr_io.specs.Pieces.{Rose}
 use Rattle.gr_logic.specs.Literals.{Literal}
 use Rattle.gr_logic.specs.Formulas.{Cnf}
 use Rattle.gr_text.specs.Places.{known, taken, limit_of}
-use Rattle.gr_dimacs.specs.Stands.{Stand}
+use Rattle.gr_text.specs.Stands.{Stand}
 use Rattle.gr_dimacs.specs.Numbers.{Number, Zero, Lit, Other, number, value}
 use Rattle.gr_dimacs.specs.Tokens.{tokens_of, ending_of}
 use Rattle.gr_dimacs.specs.Grammar.{word_of}

@@ -1,8 +1,9 @@
 // A formula as it is read.
-ghost use Rattle.std.specs.Prelude.{◌≡◌, ◌<◌, ◌≤◌, ◌-◌, [], ◌&&◌, length, nat_le, IfErr, OnOk};
+ghost use Rattle.std.specs.Prelude.{◌≡◌, ◌<◌, ◌≤◌, ◌-◌, [], ◌&&◌, length, nat_le, Err, IfErr, OnOk};
 ghost use Rattle.gr_dimacs.specs.Answers.{Concludes};
 ghost use Rattle.gr_dimacs.specs.Building.{IsSized, RefusesNumber, TakesNumber, building, is_nil};
 ghost use Rattle.gr_dimacs.specs.Numbers.{Zero, begins, number};
+ghost use Rattle.gr_dimacs.specs.Reads.{IsTooLong};
 
 use crate::faults::{FaultKind, GrammarFault, ReadError};
 use crate::numerals::{Numeral, read_numeral};
@@ -82,6 +83,7 @@ impl Builder {
     fn end_clause(&mut self) -> Result<(), TakeError>
         ensures ok { OnOk result (TakesNumber Zero self.old self.new) }
         ensures err { IfErr result (λ e. RefusesNumber Zero e self.old) }
+        ensures other { result ≡ Err (TakeError.Bad FaultKind.TooLong) → ⊥ }
     {
         if self.is_past_last() {
             return Err(TakeError::Bad(FaultKind::TooMany));
@@ -104,6 +106,7 @@ impl Builder {
         requires { IsSized size positive (number word.now) }
         ensures ok { OnOk result (TakesNumber (number word.now) self.old self.new) }
         ensures err { IfErr result (λ e. RefusesNumber (number word.now) e self.old) }
+        ensures other { result ≡ Err (TakeError.Bad FaultKind.TooLong) → ⊥ }
     {
         let _ = word;
         if self.is_past_last() {
@@ -136,7 +139,8 @@ impl Builder {
 
     /// The formula, where it may end here.
     pub fn finish(self, line: u64) -> Result<Formula, ReadError>
-        ensures { Concludes result line self }
+        ensures concludes { Concludes result line self }
+        ensures other { IsTooLong result → ⊥ }
     {
         if !self.empty {
             return Err(ReadError::Grammar(GrammarFault {
@@ -157,6 +161,7 @@ impl Builder {
     pub fn take(&mut self, word: &[u8]) -> Result<(), TakeError>
         ensures ok { OnOk result (TakesNumber (number word.now) self.old self.new) }
         ensures err { IfErr result (λ e. RefusesNumber (number word.now) e self.old) }
+        ensures other { result ≡ Err (TakeError.Bad FaultKind.TooLong) → ⊥ }
     {
         match read_numeral(word) {
             Numeral::Other => Err(TakeError::Bad(FaultKind::BadToken)),

@@ -4,17 +4,16 @@ ghost use Rattle.gr_text.specs.Places.{known, limit_of};
 ghost use Rattle.gr_dimacs.specs.Faults.{same_word};
 ghost use Rattle.gr_dimacs.specs.Grammar.{p_word, cnf_word};
 ghost use Rattle.gr_dimacs.specs.Heads.{CountToken, HeadToken, WordToken};
-ghost use Rattle.gr_dimacs.specs.Reads.{IsLawful};
-ghost use Rattle.gr_dimacs.specs.Stands.{Goes, stand};
+ghost use Rattle.gr_dimacs.specs.Reads.{IsLawful, IsSettled, IsTooLong};
+ghost use Rattle.gr_text.specs.Stands.{Goes, stand};
 ghost use Rattle.gr_dimacs.specs.Texts.{Header};
 
 use crate::builders::Builder;
 use crate::faults::{FaultKind, GrammarFault, ReadError};
 use crate::limits::Limits;
-use crate::numerals;
 use crate::tokens::{Found, next_token};
 use gr_io::Source;
-use gr_text::{ScanError, Scanner};
+use gr_text::{ScanError, Scanner, count};
 use std::alloc::Global;
 
 /// Reads the header, and makes a builder for the clauses that follow it.
@@ -27,11 +26,14 @@ pub fn read_header<S: Source>(
     requires limits { IsLawful limits.now }
     ensures same { scanner.new.source.ghost_name ≡ scanner.old.source.ghost_name }
     ensures goes { Goes
-        (stand scanner.old.held (S.left scanner.old.source.now) (S.faults scanner.old.source.now))
-        (stand scanner.new.held (S.left scanner.new.source.now) (S.faults scanner.new.source.now)) }
+        (stand S.left S.taken S.faults scanner.old.held scanner.old.source.now)
+        (stand S.left S.taken S.faults scanner.new.held scanner.new.source.now) }
     ensures answer { Header limits.now result
-        (stand scanner.old.held (S.left scanner.old.source.now) (S.faults scanner.old.source.now))
-        (stand scanner.new.held (S.left scanner.new.source.now) (S.faults scanner.new.source.now)) }
+        (stand S.left S.taken S.faults scanner.old.held scanner.old.source.now)
+        (stand S.left S.taken S.faults scanner.new.held scanner.new.source.now) }
+    ensures calm { IsSettled result →
+        S.faults scanner.new.source.now ≡ S.faults scanner.old.source.now }
+    ensures full { IsTooLong result → scanner.new.held.spare ≡ 0 }
 {
     match header_p(scanner) {
         Ok(()) => {}
@@ -56,11 +58,14 @@ pub fn read_header<S: Source>(
 fn header_p<S: Source>(scanner: &mut Scanner<'_, S>) -> Result<(), ReadError>
     ensures same { scanner.new.source.ghost_name ≡ scanner.old.source.ghost_name }
     ensures goes { Goes
-        (stand scanner.old.held (S.left scanner.old.source.now) (S.faults scanner.old.source.now))
-        (stand scanner.new.held (S.left scanner.new.source.now) (S.faults scanner.new.source.now)) }
+        (stand S.left S.taken S.faults scanner.old.held scanner.old.source.now)
+        (stand S.left S.taken S.faults scanner.new.held scanner.new.source.now) }
     ensures answer { WordToken p_word FaultKind.NoHeader result
-        (stand scanner.old.held (S.left scanner.old.source.now) (S.faults scanner.old.source.now))
-        (stand scanner.new.held (S.left scanner.new.source.now) (S.faults scanner.new.source.now)) }
+        (stand S.left S.taken S.faults scanner.old.held scanner.old.source.now)
+        (stand S.left S.taken S.faults scanner.new.held scanner.new.source.now) }
+    ensures calm { IsSettled result →
+        S.faults scanner.new.source.now ≡ S.faults scanner.old.source.now }
+    ensures full { IsTooLong result → scanner.new.held.spare ≡ 0 }
 {
     let line = match header_token(scanner, FaultKind::NoHeader) {
         Ok(line) => line,
@@ -79,11 +84,14 @@ fn header_p<S: Source>(scanner: &mut Scanner<'_, S>) -> Result<(), ReadError>
 fn header_cnf<S: Source>(scanner: &mut Scanner<'_, S>) -> Result<(), ReadError>
     ensures same { scanner.new.source.ghost_name ≡ scanner.old.source.ghost_name }
     ensures goes { Goes
-        (stand scanner.old.held (S.left scanner.old.source.now) (S.faults scanner.old.source.now))
-        (stand scanner.new.held (S.left scanner.new.source.now) (S.faults scanner.new.source.now)) }
+        (stand S.left S.taken S.faults scanner.old.held scanner.old.source.now)
+        (stand S.left S.taken S.faults scanner.new.held scanner.new.source.now) }
     ensures answer { WordToken cnf_word FaultKind.BadHeader result
-        (stand scanner.old.held (S.left scanner.old.source.now) (S.faults scanner.old.source.now))
-        (stand scanner.new.held (S.left scanner.new.source.now) (S.faults scanner.new.source.now)) }
+        (stand S.left S.taken S.faults scanner.old.held scanner.old.source.now)
+        (stand S.left S.taken S.faults scanner.new.held scanner.new.source.now) }
+    ensures calm { IsSettled result →
+        S.faults scanner.new.source.now ≡ S.faults scanner.old.source.now }
+    ensures full { IsTooLong result → scanner.new.held.spare ≡ 0 }
 {
     let line = match header_token(scanner, FaultKind::BadHeader) {
         Ok(line) => line,
@@ -103,17 +111,20 @@ fn header_count<S: Source>(scanner: &mut Scanner<'_, S>, limit: u64) -> Result<u
     requires { limit ≤ 5_000_000 }
     ensures same { scanner.new.source.ghost_name ≡ scanner.old.source.ghost_name }
     ensures goes { Goes
-        (stand scanner.old.held (S.left scanner.old.source.now) (S.faults scanner.old.source.now))
-        (stand scanner.new.held (S.left scanner.new.source.now) (S.faults scanner.new.source.now)) }
+        (stand S.left S.taken S.faults scanner.old.held scanner.old.source.now)
+        (stand S.left S.taken S.faults scanner.new.held scanner.new.source.now) }
     ensures answer { CountToken limit result
-        (stand scanner.old.held (S.left scanner.old.source.now) (S.faults scanner.old.source.now))
-        (stand scanner.new.held (S.left scanner.new.source.now) (S.faults scanner.new.source.now)) }
+        (stand S.left S.taken S.faults scanner.old.held scanner.old.source.now)
+        (stand S.left S.taken S.faults scanner.new.held scanner.new.source.now) }
+    ensures calm { IsSettled result →
+        S.faults scanner.new.source.now ≡ S.faults scanner.old.source.now }
+    ensures full { IsTooLong result → scanner.new.held.spare ≡ 0 }
 {
     let line = match header_token(scanner, FaultKind::BadHeader) {
         Ok(line) => line,
         Err(failed) => return Err(failed),
     };
-    match numerals::count(scanner.token()) {
+    match count(scanner.token()) {
         None => Err(ReadError::Grammar(GrammarFault {
             kind: FaultKind::BadHeader,
             line,
@@ -135,13 +146,17 @@ fn header_token<S: Source>(
     scanner: &mut Scanner<'_, S>,
     at_end: FaultKind,
 ) -> Result<u64, ReadError>
+    requires { at_end ≡ FaultKind.TooLong → ⊥ }
     ensures same { scanner.new.source.ghost_name ≡ scanner.old.source.ghost_name }
     ensures goes { Goes
-        (stand scanner.old.held (S.left scanner.old.source.now) (S.faults scanner.old.source.now))
-        (stand scanner.new.held (S.left scanner.new.source.now) (S.faults scanner.new.source.now)) }
+        (stand S.left S.taken S.faults scanner.old.held scanner.old.source.now)
+        (stand S.left S.taken S.faults scanner.new.held scanner.new.source.now) }
     ensures answer { HeadToken at_end result
-        (stand scanner.old.held (S.left scanner.old.source.now) (S.faults scanner.old.source.now))
-        (stand scanner.new.held (S.left scanner.new.source.now) (S.faults scanner.new.source.now)) }
+        (stand S.left S.taken S.faults scanner.old.held scanner.old.source.now)
+        (stand S.left S.taken S.faults scanner.new.held scanner.new.source.now) }
+    ensures calm { IsSettled result →
+        S.faults scanner.new.source.now ≡ S.faults scanner.old.source.now }
+    ensures full { IsTooLong result → scanner.new.held.spare ≡ 0 }
 {
     match next_token(scanner) {
         Ok(Found::Token { line }) => Ok(line),

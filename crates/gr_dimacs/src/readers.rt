@@ -3,8 +3,8 @@ ghost use Rattle.std.specs.Prelude.{◌≡◌, ◌≤◌, IfErr};
 ghost use Rattle.gr_io.specs.Pieces.{Rose};
 ghost use Rattle.gr_text.specs.Places.{at_start, known, limit_of};
 ghost use Rattle.gr_dimacs.specs.Answers.{Answers};
-ghost use Rattle.gr_dimacs.specs.Reads.{IsLawful, Reads};
-ghost use Rattle.gr_dimacs.specs.Stands.{Goes, stand};
+ghost use Rattle.gr_dimacs.specs.Reads.{CountsBytes, IsLawful, IsSettled, IsTooLong, Reads};
+ghost use Rattle.gr_text.specs.Stands.{Goes, stand};
 ghost use Rattle.gr_dimacs.specs.Texts.{Decides};
 
 use crate::builders::{Builder, TakeError};
@@ -20,18 +20,18 @@ use std::alloc::Global;
 /// Reads the formula that what the source has left spells, up to its end or the `%` that ends it.
 ///
 /// A token counts when the blank after it, or the text's end, was read. The first token that is at fault
-/// decides, and nothing behind it is asked for.
+/// decides, and nothing behind it is asked for. No more bytes are taken than may be looked at, and just as many
+/// where the text is too long. A read that fails ends the reading.
 pub fn read<S: Source>(alloc: Global, source: &mut S, limits: &Limits) -> Result<Formula, ReadError>
     requires { IsLawful limits.now }
     ensures answer { Reads limits.now result (S.left source.old) (S.left source.new) }
+    ensures counts { CountsBytes limits.now.bytes result (S.taken source.old) (S.taken source.new) }
     ensures fault { IfErr result (λ e. e ≡ ReadError.ReadFault →
         Rose (S.faults source.old) (S.faults source.new)) }
+    ensures calm { IsSettled result → S.faults source.new ≡ S.faults source.old }
     ensures grows { S.faults source.old ≤ S.faults source.new }
 {
-    let held = match Held::new(alloc, limits.bytes) {
-        Ok(held) => held,
-        Err(_) => return Err(ReadError::OutOfMemory),
-    };
+    let held = Held::new(alloc, limits.bytes);
     let mut scanner = Scanner::over(source, held);
     read_scanned(alloc, &mut scanner, limits)
 }
@@ -46,11 +46,14 @@ fn read_scanned<S: Source>(
     requires limits { IsLawful limits.now }
     ensures same { scanner.new.source.ghost_name ≡ scanner.old.source.ghost_name }
     ensures goes { Goes
-        (stand scanner.old.held (S.left scanner.old.source.now) (S.faults scanner.old.source.now))
-        (stand scanner.new.held (S.left scanner.new.source.now) (S.faults scanner.new.source.now)) }
+        (stand S.left S.taken S.faults scanner.old.held scanner.old.source.now)
+        (stand S.left S.taken S.faults scanner.new.held scanner.new.source.now) }
     ensures answer { Decides result limits.now
-        (stand scanner.old.held (S.left scanner.old.source.now) (S.faults scanner.old.source.now))
-        (stand scanner.new.held (S.left scanner.new.source.now) (S.faults scanner.new.source.now)) }
+        (stand S.left S.taken S.faults scanner.old.held scanner.old.source.now)
+        (stand S.left S.taken S.faults scanner.new.held scanner.new.source.now) }
+    ensures calm { IsSettled result →
+        S.faults scanner.new.source.now ≡ S.faults scanner.old.source.now }
+    ensures full { IsTooLong result → scanner.new.held.spare ≡ 0 }
 {
     let builder = match read_header(alloc, scanner, limits) {
         Ok(builder) => builder,
@@ -69,11 +72,14 @@ fn read_body<S: Source>(
     requires { known scanner.old.held ≤ limit_of scanner.old.held }
     ensures same { scanner.new.source.ghost_name ≡ scanner.old.source.ghost_name }
     ensures goes { Goes
-        (stand scanner.old.held (S.left scanner.old.source.now) (S.faults scanner.old.source.now))
-        (stand scanner.new.held (S.left scanner.new.source.now) (S.faults scanner.new.source.now)) }
+        (stand S.left S.taken S.faults scanner.old.held scanner.old.source.now)
+        (stand S.left S.taken S.faults scanner.new.held scanner.new.source.now) }
     ensures answer { Answers result builder
-        (stand scanner.old.held (S.left scanner.old.source.now) (S.faults scanner.old.source.now))
-        (stand scanner.new.held (S.left scanner.new.source.now) (S.faults scanner.new.source.now)) }
+        (stand S.left S.taken S.faults scanner.old.held scanner.old.source.now)
+        (stand S.left S.taken S.faults scanner.new.held scanner.new.source.now) }
+    ensures calm { IsSettled result →
+        S.faults scanner.new.source.now ≡ S.faults scanner.old.source.now }
+    ensures full { IsTooLong result → scanner.new.held.spare ≡ 0 }
 {
     'tokens: loop {
         let line = match next_token(scanner) {

@@ -255,3 +255,21 @@ fn a_failed_write_fails(rt: HostRuntime) -> Result<(), Fail> {
     assert_eq!(rt; sink.text(), b"p cnf".as_slice());
     Ok(())
 }
+
+#[test]
+fn a_thousand_clauses_of_three_hundred_sizes_are_read_and_written(
+    rt: HostRuntime,
+) -> Result<(), Fail> {
+    let alloc = rt.alloc();
+    let mut text = Vec::from_slice(alloc, b"p cnf 300 1000\n")?;
+    for clause in 0..1_000u64 {
+        for var in 0..clause % 300 {
+            let literal = var + 1;
+            text.extend_from_slice(format!(in alloc; "{literal} ")?.as_bytes())?;
+        }
+        text.extend_from_slice(b"0\n")?;
+    }
+    let again = reread(alloc, text.as_slice(), &PROGRAM_LIMITS)?;
+    assert!(rt; again.is_ok_and(|written| written.as_slice() == text.as_slice()));
+    Ok(())
+}

@@ -2,7 +2,8 @@
 ghost use Rattle.std.specs.Prelude.{◌≡◌};
 ghost use Rattle.gr_dimacs.specs.Finds.{NextToken};
 ghost use Rattle.gr_dimacs.specs.Numbers.{begins};
-ghost use Rattle.gr_dimacs.specs.Stands.{Goes, stand};
+ghost use Rattle.gr_text.specs.Scans.{IsAnswer};
+ghost use Rattle.gr_text.specs.Stands.{Goes, stand};
 
 use gr_io::Source;
 use gr_text::{ScanError, Scanned, Scanner};
@@ -18,11 +19,13 @@ pub enum Found {
 pub fn next_token<S: Source>(scanner: &mut Scanner<'_, S>) -> Result<Found, ScanError>
     ensures same { scanner.new.source.ghost_name ≡ scanner.old.source.ghost_name }
     ensures goes { Goes
-        (stand scanner.old.held (S.left scanner.old.source.now) (S.faults scanner.old.source.now))
-        (stand scanner.new.held (S.left scanner.new.source.now) (S.faults scanner.new.source.now)) }
+        (stand S.left S.taken S.faults scanner.old.held scanner.old.source.now)
+        (stand S.left S.taken S.faults scanner.new.held scanner.new.source.now) }
     ensures answer { NextToken result
-        (stand scanner.old.held (S.left scanner.old.source.now) (S.faults scanner.old.source.now))
-        (stand scanner.new.held (S.left scanner.new.source.now) (S.faults scanner.new.source.now)) }
+        (stand S.left S.taken S.faults scanner.old.held scanner.old.source.now)
+        (stand S.left S.taken S.faults scanner.new.held scanner.new.source.now) }
+    ensures calm { IsAnswer result →
+        S.faults scanner.new.source.now ≡ S.faults scanner.old.source.now }
 {
     'found: loop {
         match scanner.next() {

@@ -32,9 +32,16 @@ after_call p = record { fail = p.fail; calls = counted p.calls; faults = p.fault
 abbrev pub after_fault : Plan → Plan
 after_fault p = record { fail = p.fail; calls = counted p.calls; faults = counted p.faults }
 
--- the bytes that a source in memory has left, how many it gives in one call at most, and its plan
+-- the bytes that a text has left, and how many were taken
+pub record TextLeft : Type 0 where
+  pub left : List ℕ
+  pub taken : ℕ
+
+-- the bytes that a source in memory has left, how many were taken, how many it gives in one call at
+-- most, and its plan
 pub record MemLeft : Type 0 where
   pub left : List ℕ
+  pub taken : ℕ
   pub chunk : ℕ
   pub plan : Plan
 
@@ -48,6 +55,7 @@ pub record MemHeld : Type 0 where
 pub record Reads (n : ℕ) (buffer : List ℕ) (old new : MemLeft) : Type 0 where
   pub given : take n buffer ≡ take n old.left
   pub left : new.left ≡ drop n old.left
+  pub taken : new.taken ≡ old.taken + n
   pub chunk : new.chunk ≡ old.chunk
   pub plan : new.plan ≡ after_call old.plan
   pub lawful : fails_next old.plan ≡ false
@@ -55,7 +63,7 @@ pub record Reads (n : ℕ) (buffer : List ℕ) (old new : MemLeft) : Type 0 wher
 -- a call that was to fail gave nothing; no call asks for memory
 abbrev pub ReadFails : SourceError → MemLeft → MemLeft → Type 0
 ReadFails read.Fault old new = (fails_next old.plan ≡ true)
-    × (new ≡ record { left = old.left; chunk = old.chunk; plan = after_fault old.plan })
+    × (new ≡ record old { plan = after_fault old.plan })
 ReadFails read.OutOfMemory old new = ⊥
 
 -- a sink in memory took the whole piece, and this call was not to fail

@@ -1,6 +1,7 @@
 // Sources and sinks over files and standard output, the trusted edge. They tell no bytes: no
 // contract can say what the system keeps of a file.
-ghost use Rattle.std.specs.Prelude.{◌≡◌, ◌≤◌, ℕ, List, Option, None, length, IfOk, IfErr, OnErr};
+ghost use Rattle.std.specs.Prelude.{◌≡◌, ◌<◌, ◌≤◌, ◌+◌, ◌^◌, ℕ, List, Option, None, length, IfOk, IfErr, OnOk, OnErr, is_err};
+ghost use Rattle.gr_io.specs.Files.{IsCounted};
 ghost use Rattle.gr_io.specs.Pieces.{Rose};
 
 use crate::sinks::{Sink, SinkError};
@@ -10,32 +11,35 @@ use std::io::{self, Read, Write};
 use std::marker::Model;
 use std::rt::Files;
 
-/// Reads a file, which is opened at the first read. A contract sees how many reads failed.
+/// Reads a file, which is opened at the first read. A contract sees how many bytes were taken and how
+/// many reads failed. Behind 2^64 - 1 bytes, which no file has, each read fails.
 #[derive(Drop)]
 pub struct FileSource<R: Files + Drop> {
     rt: R,
     path: String,
     file: Option<R::File>,
+    taken: u64,
     faults: u64,
 }
 
 impl<R: Files + Drop> Model for FileSource<R> {
-    ghost use Rattle.std.specs.Prelude.{ℕ};
+    ghost use Rattle.gr_io.specs.Files.{FileRead};
 
-    ghost Value = { ℕ };
+    ghost Value = { FileRead };
 
-    ghost view = { λ s. s.faults };
+    ghost view = { λ s. record { taken = s.taken; faults = s.faults } };
 }
 
 impl<R: Files + Drop> FileSource<R> {
     /// A source of the file at this path. Nothing is opened yet.
     pub fn new(rt: R, path: String) -> FileSource<R>
-        ensures { result ≡ 0 }
+        ensures { result ≡ record { taken = 0; faults = 0 } }
     {
         FileSource {
             rt,
             path,
             file: None,
+            taken: 0,
             faults: 0,
         }
     }
@@ -43,13 +47,19 @@ impl<R: Files + Drop> FileSource<R> {
     /// Opens the file where that was not done yet, and reads from it once.
     fn read_file(&mut self, buf: &mut [u8]) -> io::Result<usize>
         ensures within { IfOk result (λ n. n ≤ length buf.new) }
-        ensures faults { self.new ≡ self.old }
+        ensures room { IfOk result (λ n. self.old.taken + n < 2 ^ 64) }
+        ensures same { self.new ≡ self.old }
     {
+        let room = u64::MAX - self.taken;
+        if room == 0 {
+            return Err(io::Error::from(io::ErrorKind::FileTooLarge));
+        }
         if self.file.is_none() {
             self.file = Some(fs::open(&self.rt, self.path.as_str())?);
         }
+        let most = buf.len().min(room as usize);
         match &mut self.file {
-            Some(file) => file.read(buf),
+            Some(file) => file.read(&mut buf[..most]),
             None => Ok(0),
         }
     }
@@ -58,20 +68,44 @@ impl<R: Files + Drop> FileSource<R> {
 impl<R: Files + Drop> Source for FileSource<R> {
     ghost left = { λ s. None };
 
-    ghost faults = { λ s. s };
+    ghost taken = { λ s. s.taken };
+
+    ghost faults = { λ s. s.faults };
 
     fn read(&mut self, buf: &mut [u8]) -> Result<usize, SourceError>
         ensures within { IfOk result (λ n. n ≤ length buf.new) }
+        ensures counts { IfOk result (λ n. self.new.taken ≡ self.old.taken + n) }
+        ensures none { OnErr result (self.new.taken ≡ self.old.taken) }
         ensures only_fault { IfErr result (λ e. e ≡ SourceError.Fault) }
-        ensures fault { OnErr result (Rose self.old self.new) }
-        ensures grows { self.old ≤ self.new }
+        ensures fault { OnErr result (Rose self.old.faults self.new.faults) }
+        ensures calm { OnOk result (self.new.faults ≡ self.old.faults) }
+        ensures grows { self.old.faults ≤ self.new.faults }
     {
-        match self.read_file(buf) {
-            Ok(count) => Ok(count),
-            Err(_) => {
-                self.faults = self.faults.saturating_add(1);
-                Err(SourceError::Fault)
+        let read = self.read_file(buf);
+        match count_read(read, &mut self.faults) {
+            Ok(count) => {
+                self.taken += count as u64;
+                Ok(count)
             }
+            Err(failed) => Err(failed),
+        }
+    }
+}
+
+/// What a source answers to a read: a fault, which is counted, exactly where the read failed.
+fn count_read(read: io::Result<usize>, faults: &mut u64) -> Result<usize, SourceError>
+    ensures told { is_err result ≡ is_err read }
+    ensures count { IfOk result (λ n. IfOk read (λ m. n ≡ m)) }
+    ensures only_fault { IfErr result (λ e. e ≡ SourceError.Fault) }
+    ensures fault { OnErr result (Rose faults.old faults.new) }
+    ensures calm { OnOk result (faults.new ≡ faults.old) }
+    ensures grows { faults.old ≤ faults.new }
+{
+    match read {
+        Ok(count) => Ok(count),
+        Err(_) => {
+            *faults = faults.saturating_add(1);
+            Err(SourceError::Fault)
         }
     }
 }
@@ -128,23 +162,20 @@ impl<R: Files + Drop> Sink for FileSink<R> {
     ghost faults = { λ s. s };
 
     fn write(&mut self, piece: &[u8]) -> Result<(), SinkError>
-        ensures only_fault { IfErr result (λ e. e ≡ SinkError.Fault) }
-        ensures fault { OnErr result (Rose self.old self.new) }
-        ensures grows { self.old ≤ self.new }
+        ensures { IsCounted result self.old self.new }
     {
         if piece.is_empty() {
             return Ok(());
         }
         let written = self.write_file(piece);
-        answer(written, &mut self.faults)
+        count_write(written, &mut self.faults)
     }
 }
 
-/// What a sink answers to a write, which is counted where it failed.
-fn answer(written: io::Result<()>, faults: &mut u64) -> Result<(), SinkError>
-    ensures only_fault { IfErr result (λ e. e ≡ SinkError.Fault) }
-    ensures fault { OnErr result (Rose faults.old faults.new) }
-    ensures grows { faults.old ≤ faults.new }
+/// What a sink answers to a write: a fault, which is counted, exactly where the write failed.
+fn count_write(written: io::Result<()>, faults: &mut u64) -> Result<(), SinkError>
+    ensures told { is_err result ≡ is_err written }
+    ensures counted { IsCounted result faults.old faults.new }
 {
     match written {
         Ok(()) => Ok(()),
@@ -187,15 +218,13 @@ impl<R: Print + Drop> Sink for OutSink<R> {
     ghost faults = { λ s. s };
 
     fn write(&mut self, piece: &[u8]) -> Result<(), SinkError>
-        ensures only_fault { IfErr result (λ e. e ≡ SinkError.Fault) }
-        ensures fault { OnErr result (Rose self.old self.new) }
-        ensures grows { self.old ≤ self.new }
+        ensures { IsCounted result self.old self.new }
     {
         if piece.is_empty() {
             return Ok(());
         }
         let written = self.rt.write_all(piece);
-        answer(written, &mut self.faults)
+        count_write(written, &mut self.faults)
     }
 }
 

@@ -1,5 +1,5 @@
 // A source and a sink over memory whose calls fail by plan, for tests of what faults do.
-ghost use Rattle.std.specs.Prelude.{◌≡◌, ◌<◌, ◌≤◌, ◌++◌, ◌⊎◌, ℕ, List, [], Some, length, take, drop, min, true, false, Ok, Err, IfOk, IfErr, OnOk, OnErr};
+ghost use Rattle.std.specs.Prelude.{◌≡◌, ◌<◌, ◌≤◌, ◌+◌, ◌++◌, ◌⊎◌, ℕ, List, [], Some, length, take, drop, min, true, false, Ok, Err, IfOk, IfErr, OnOk, OnErr};
 ghost use Rattle.gr_io.specs.Pieces.{ComesOff, IsSpent, Gains, GainsPart, Rose};
 ghost use Rattle.gr_io.specs.Memory.{Plan, planned, fails_next, after_call, after_fault, Reads, ReadFails, WritesAll, WriteFails};
 
@@ -71,7 +71,12 @@ impl Model for MemSource {
 
     ghost Value = { MemLeft };
 
-    ghost view = { λ s. record { left = s.text; chunk = s.chunk; plan = s.calls } };
+    ghost view = { λ s. record {
+      left = s.text.left;
+      taken = s.text.taken;
+      chunk = s.chunk;
+      plan = s.calls;
+    } };
 
     ghost invariant = { λ s. 0 < s.chunk };
 }
@@ -81,7 +86,12 @@ impl MemSource {
     /// fail. It asks for no memory.
     pub fn new(text: Vec<u8>, chunk: usize, fail: Vec<u64>) -> MemSource
         requires { 0 < chunk }
-        ensures { result ≡ record { left = text.items; chunk = chunk; plan = planned fail.items } }
+        ensures { result ≡ record {
+          left = text.items;
+          taken = 0;
+          chunk = chunk;
+          plan = planned fail.items;
+        } }
     {
         MemSource {
             text: TextSource::new(text),
@@ -94,6 +104,8 @@ impl MemSource {
 impl Source for MemSource {
     ghost left = { λ s. Some s.left };
 
+    ghost taken = { λ s. s.taken };
+
     ghost faults = { λ s. s.plan.faults };
 
     fn read(&mut self, buf: &mut [u8]) -> Result<usize, SourceError>
@@ -101,9 +113,12 @@ impl Source for MemSource {
         ensures ok { IfOk result (λ n.
             ComesOff (take n buf.new) (Some self.old.left) (Some self.new.left)) }
         ensures end { IfOk result (λ n. n ≡ 0 → 0 < length buf.old → IsSpent (Some self.old.left)) }
+        ensures counts { IfOk result (λ n. self.new.taken ≡ self.old.taken + n) }
         ensures err { OnErr result (self.new.left ≡ self.old.left) }
+        ensures none { OnErr result (self.new.taken ≡ self.old.taken) }
         ensures fault { IfErr result (λ e. e ≡ SourceError.Fault →
             Rose self.old.plan.faults self.new.plan.faults) }
+        ensures calm { OnOk result (self.new.plan.faults ≡ self.old.plan.faults) }
         ensures grows { self.old.plan.faults ≤ self.new.plan.faults }
 
         // Beyond what each source ensures: which calls fail, and how much the others give.
@@ -176,6 +191,7 @@ impl Sink for MemSink {
         ensures err { OnErr result (GainsPart piece.now (Some self.old.text) (Some self.new.text)) }
         ensures fault { IfErr result (λ e. e ≡ SinkError.Fault →
             Rose self.old.plan.faults self.new.plan.faults) }
+        ensures calm { OnOk result (self.new.plan.faults ≡ self.old.plan.faults) }
         ensures grows { self.old.plan.faults ≤ self.new.plan.faults }
 
         // Beyond what each sink ensures: which calls fail, and how much they keep.
@@ -272,6 +288,19 @@ mod tests {
         sink.write(b"1 ")?;
         sink.write(b"0\n")?;
         assert_eq!(rt; sink.text(), b"1 0\n".as_slice());
+        Ok(())
+    }
+
+    #[test]
+    fn a_hundred_thousand_bytes_are_written_and_read(rt: HostRuntime) -> Result<(), Fail> {
+        let alloc = rt.alloc();
+        let text = Vec::from_elem(alloc, b'7', 100_000)?;
+        let mut sink = MemSink::new(alloc, Vec::new(alloc), 0);
+        sink.write(text.as_slice())?;
+        assert!(rt; sink.text() == text.as_slice());
+        let mut source = MemSource::new(text, 100_000, Vec::new(alloc));
+        let mut buf = Vec::from_elem(alloc, 0u8, 200_000)?;
+        assert_eq!(rt; source.read(buf.as_mut_slice())?, 100_000);
         Ok(())
     }
 }

@@ -24,12 +24,13 @@ pub trait Sink {
     ghost faults: { Self → ℕ };
 
     /// Adds the piece to what was written; an error leaves the old text and a front part of the
-    /// piece.
+    /// piece. Where it succeeds no write failed.
     fn write(&mut self, piece: &[u8]) -> Result<(), SinkError>
         ensures ok { OnOk result (Gains piece.now (written self.old) (written self.new)) }
         ensures err { OnErr result (GainsPart piece.now (written self.old) (written self.new)) }
         ensures fault { IfErr result (λ e. e ≡ SinkError.Fault →
             Rose (faults self.old) (faults self.new)) }
+        ensures calm { OnOk result (faults self.new ≡ faults self.old) }
         ensures grows { faults self.old ≤ faults self.new };
 }
 

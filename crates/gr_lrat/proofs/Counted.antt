@@ -1,14 +1,8 @@
 -- numbers of which no more than a limit matters
-use Rattle.std.proofs.Common.{◌≡◌, ℕ, zero, suc, ◌+◌, ◌*◌, ◌-◌, ◌^◌, ◌≤◌, ◌<◌, ◌⊎◌, inl, inr, Bool, true, false, List, [], ◌∷◌, refl, arith, min, nat_le, Option, Some, None, is_some, if◌then◌else◌}
-use Rattle.std.proofs.lemmas.Bool.{le-leb}
+use Rattle.std.proofs.Common.{◌≡◌, ℕ, zero, suc, ◌-◌, ◌^◌, ◌≤◌, ◌<◌, ◌⊎◌, inl, inr, Bool, true, false, List, refl, arith, min, Option, Some, None, is_some, if◌then◌else◌}
 use Rattle.std.proofs.lemmas.Bool.Decides.{nat_tests}
-use Rattle.gr_lrat.specs.Numerals.{value, value_after, is_digit, is_count, is_up_to, id_of}
+use Rattle.gr_lrat.specs.Numerals.{value, is_count, is_up_to, id_of}
 use Rattle.gr_lrat.specs.Counts.{capped_count, id_of_count}
-
--- more digits make no smaller value
-value_after-le : (ds : List ℕ) (n : ℕ) → n ≤ value_after n ds
-value_after-le [] n = omega arith
-value_after-le (d ∷ ds) n = omega (arith, value_after-le ds (10 * n + (d - 48)))
 
 -- of two numbers one is not above the other
 le_or_lt : (m n : ℕ) → (m ≤ n) ⊎ (n < m)
@@ -19,23 +13,6 @@ le_or_lt (suc m) (suc n) = elim (le_or_lt m n) [
   | inr h ↦ inr (omega
       arith)
 ]
-
--- a value that is cut at a limit stays right up to the limit
-pub capped : (ds : List ℕ) (m cap : ℕ) → min (value_after (min m cap) ds) cap
-    ≡ min (value_after m ds) cap
-capped ds m cap = elim (le_or_lt m cap) [
-  | inl h ↦ let same : min m cap ≡ m = omega arith in rw same refl
-  | inr h ↦
-      let top : min m cap ≡ cap = omega arith in
-      rw top (omega (arith, value_after-le ds cap, value_after-le ds m))
-]
-
--- a byte between the digits is one
-pub digit_is : (b : ℕ) → 48 ≤ b → b ≤ 57 → is_digit b ≡ true
-digit_is b low high =
-    let a : nat_le 48 b ≡ true = le-leb 48 b low in
-    let c : nat_le b 57 ≡ true = le-leb b 57 high in
-    rw (a, c) refl
 
 -- a truth value is one of two
 pub bool_cases : (b : Bool) → (b ≡ true) ⊎ (b ≡ false)

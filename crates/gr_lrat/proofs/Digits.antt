@@ -1,33 +1,17 @@
 -- written numbers are read by their value
-use Rattle.std.proofs.Common.{◌≡◌, ◌∙◌, ℕ, suc, ◌+◌, ◌-◌, ◌^◌, ◌≤◌, ◌<◌, Bool, true, false, ◌&&◌, List, [], ◌∷◌, length, refl, arith, rules, nat_eq, nat_le, inl, inr, Some}
+use Rattle.std.proofs.Common.{◌≡◌, ◌∙◌, ℕ, suc, ◌+◌, ◌-◌, ◌^◌, ◌≤◌, ◌<◌, Bool, true, false, ◌&&◌, List, [], ◌∷◌, refl, arith, nat_eq, nat_le, inl, inr, Some}
 use Rattle.std.specs.List.{list_all}
 use Rattle.std.specs.Fmt.{decimal, signed_decimal}
-use Rattle.std.proofs.lemmas.Fmt.{digits_decimal, digits_value-decimal, decimal_nonempty}
-use Rattle.std.proofs.lemmas.Str.Parse.{IsNumeralModel, numerals_by_fold}
 use Rattle.std.proofs.lemmas.Bool.{leb-true, le-leb}
 use Rattle.std.proofs.lemmas.Grind.{common_steps}
 use Rattle.gr_logic.specs.Literals.{number_of}
 use Rattle.gr_logic.specs.Log.{IsId}
 use Rattle.gr_text.specs.Tokens.{is_space, is_line_feed}
-use Rattle.gr_lrat.specs.Numerals.{is_digit, value, value_after, is_count, is_up_to, id_of, literal_said, signed_literal}
+use Rattle.gr_lrat.specs.Numerals.{is_digit, value, is_count, is_up_to, id_of, literal_said, signed_literal}
 use Rattle.gr_lrat.specs.Lines.{is_byte, begins_comment}
 use Rattle.gr_lrat.proofs.Counted.{bool_cases}
-use Rattle.gr_lrat.proofs.Written.{HasNoBlank, IsWord}
-
--- the log's digits and values are those of std
-own : IsNumeralModel (λ ds. list_all is_digit ds ≡ true) (value_after 0)
-own = numerals_by_fold _ (search rules) value_after (search rules)
-
-all_count : (ds : List ℕ) → list_all is_digit ds ≡ true → 0 < length ds → is_count ds ≡ true
-all_count [] all some = absurd (omega arith)
-all_count (d ∷ ds) all some = all
-
-pub decimal_count : (n : ℕ) → n < 2 ^ 64 → is_count (decimal n) ≡ true
-decimal_count n small = all_count (decimal n) (digits_decimal own n small) (decimal_nonempty n
-    small)
-
-value-decimal : (n : ℕ) → n < 2 ^ 64 → value (decimal n) ≡ n
-value-decimal n small = digits_value-decimal own n small
+use Rattle.gr_text.proofs.Digits.{decimal-is-count, value-decimal}
+use Rattle.gr_text.proofs.Words.{HasNoBlank, IsWord}
 
 both_true : (a b : Bool) → (a && b) ≡ true → (a ≡ true) × (b ≡ true)
 both_true true b h = (refl, h)
@@ -42,7 +26,7 @@ up_to most n low high =
 -- a written id is read as this id
 pub id_of-decimal : (id : ℕ) → IsId id → id_of (decimal id) ≡ Some id
 id_of-decimal id is_id =
-    let count : is_count (decimal id) ≡ true = decimal_count id (omega (arith, is_id.1)) in
+    let count : is_count (decimal id) ≡ true = decimal-is-count id (omega (arith, is_id.1)) in
     let same : value (decimal id) ≡ id = value-decimal id (omega (arith, is_id.1)) in
     let fits : is_up_to (2 ^ 63 - 1) id ≡ true = up_to (2 ^ 63 - 1) id is_id.0 (omega (
       arith,
@@ -124,7 +108,7 @@ minus_number (d ∷ ds) h = record {
 -- a written id is a number
 pub id_number : (id : ℕ) → IsId id → IsNumber (decimal id)
 id_number id is_id =
-    count_number (decimal id) (decimal_count id (omega (arith, is_id.1))) (omega (
+    count_number (decimal id) (decimal-is-count id (omega (arith, is_id.1))) (omega (
       arith,
       is_id.0,
       value-decimal id (omega (arith, is_id.1)),
@@ -134,11 +118,11 @@ id_number id is_id =
 pub literal_number : (positive : Bool) (index : ℕ) → index < 1_000_000 →
     IsNumber (signed_decimal (number_of (record { index = index; positive = positive })))
 literal_number true index small =
-    count_number (decimal (index + 1)) (decimal_count (index + 1) (omega arith)) (omega (
+    count_number (decimal (index + 1)) (decimal-is-count (index + 1) (omega arith)) (omega (
       arith,
       value-decimal (index + 1) (omega arith),
     ))
-literal_number false index small = minus_number (decimal (suc index)) (decimal_count (suc index)
+literal_number false index small = minus_number (decimal (suc index)) (decimal-is-count (suc index)
     (omega arith))
 
 signed_count : (positive : Bool) (index : ℕ) (ds : List ℕ) → is_count ds ≡ true →
@@ -162,10 +146,10 @@ pub literal_said-number : (positive : Bool) (index : ℕ) → index < 1_000_000 
     literal_said (signed_decimal (number_of (record { index = index; positive = positive })))
     ≡ Some (record { index = index; positive = positive })
 literal_said-number true index small =
-    let count = decimal_count (index + 1) (omega arith) in
+    let count = decimal-is-count (index + 1) (omega arith) in
     literal_count (decimal (index + 1)) count
     ∙ signed_count true index (decimal (index + 1)) count (value-decimal (index + 1) (omega arith) ∙
     (omega arith)) small
 literal_said-number false index small =
-    signed_count false index (decimal (suc index)) (decimal_count (suc index) (omega arith))
+    signed_count false index (decimal (suc index)) (decimal-is-count (suc index) (omega arith))
     (value-decimal (suc index) (omega arith)) small

@@ -10,3 +10,5 @@ pub mod Cutting
 pub mod Written
 pub mod Digits
 pub mod RoundTrip
+pub mod GoingOn
+pub mod ByLines

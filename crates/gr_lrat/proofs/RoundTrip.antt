@@ -15,8 +15,10 @@ use Rattle.gr_lrat.specs.Lines.{Spelled, AllIds, ids_from, addition_from, additi
 use Rattle.gr_lrat.specs.Logs.{NumberedLine, AtEnd, LogOutcome, Verified, NoEmptyClause, Refused, with_line, log_from, log_read, outcome_at, refused_or, outcome_from, log_outcome}
 use Rattle.gr_lrat.specs.Laws.{IsWritable, as_read, ReadsBack}
 use Rattle.gr_lrat.proofs.Counted.{bool_cases}
-use Rattle.gr_lrat.proofs.Written.{spot, all_marks, AreWords, words_text, word_space, word_feed, line_marks}
-use Rattle.gr_lrat.proofs.Digits.{decimal_count, id_number, literal_number, id_of-decimal, literal_said-number}
+use Rattle.gr_text.proofs.Digits.{decimal-is-count}
+use Rattle.gr_text.proofs.Words.{spot, all_marks, word_space, word_feed}
+use Rattle.gr_lrat.proofs.Written.{AreWords, words_text, line_marks}
+use Rattle.gr_lrat.proofs.Digits.{id_number, literal_number, id_of-decimal, literal_said-number}
 
 -- the zero that closes a list
 abbrev zero_word : List ℕ
@@ -147,7 +149,7 @@ words_spell (Add id clause hints) ok =
 words_spell (Delete id ids) ok =
     let number = id_number id ok.ids.0 in
     let plain = number.no_comment in
-    let count = decimal_count id (omega (arith, ok.ids.0.1)) in
+    let count = decimal-is-count id (omega (arith, ok.ids.0.1)) in
     let list = recursion_from_All IsId ids ok.ids.1 in
     rw (plain, count) (ap deletion_with (ids_read ids [] list))
 

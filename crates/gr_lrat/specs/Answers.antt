@@ -1,7 +1,8 @@
 -- what the reader of logs answers
 use Rattle.std.specs.Prelude.{◌≡◌, ℕ, ◌+◌, ◌≤◌, ◌<◌, Bool, false, List, length, Option, Some, None, Result, Ok, Err}
 use Rattle.std.specs.Option.{option_map}
-use Rattle.gr_text.specs.Places.{Place, known, taken, limit_of}
+use Rattle.gr_text.specs.Places.{Place, Takes, known, taken, limit_of}
+use Rattle.gr_text.specs.Stands.{Stand}
 use Rattle.gr_text.specs.declared.scanners.ScanError.{ScanError}
 use Rattle.gr_text.specs.declared.scanners.ScanError.TheVariants as scans
 use Rattle.gr_lrat.specs.Lines.{Spelled}
@@ -51,6 +52,27 @@ pub record KeepsLimit (p q : Place) : Type 0 where
   pub limit : limit_of q ≡ limit_of p
   pub within : known p ≤ limit_of p → known q ≤ limit_of q
   pub grows : known p ≤ known q
+
+-- reading went on: the limit stays, what was taken came off the source, which counted it, and no fault
+-- is forgotten
+pub record GoesOn (old new : Stand) : Type 0 where
+  pub keeps : KeepsLimit old.place new.place
+  pub takes : Takes old.place old.left new.place new.left
+  pub counts : new.count + taken old.place ≡ old.count + taken new.place
+  pub faults : old.faults ≤ new.faults
+
+-- the log is at fault or too long: neither a failed read nor want of memory is told
+abbrev pub IsTold : LineError → Type 0
+IsTold (errors.BadLine n) = Unit {0}
+IsTold (errors.RatHint n) = Unit {0}
+IsTold (errors.TooLong n) = Unit {0}
+IsTold errors.ReadFault = ⊥
+IsTold errors.OutOfMemory = ⊥
+
+-- a line, the end of the log or its fault was told
+abbrev pub IsAnswer : Result (Option Numbered) LineError → Type 0
+IsAnswer (Ok found) = Unit {0}
+IsAnswer (Err failed) = IsTold failed
 
 -- what fails in a scanner fails in a reader
 abbrev pub line_error_of : ScanError → LineError

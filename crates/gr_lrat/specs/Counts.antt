@@ -1,14 +1,11 @@
 -- numbers of which no more than a limit matters
-use Rattle.std.specs.Prelude.{◌≡◌, ℕ, ◌-◌, ◌^◌, true, false, min, if◌then◌else◌, List, Option, Some, None}
-use Rattle.gr_lrat.specs.Numerals.{is_count, value, is_up_to, is_negative, id_of}
+use Rattle.std.specs.Prelude.{◌≡◌, ℕ, ◌-◌, ◌^◌, true, false, if◌then◌else◌, List, Option, Some, None}
+pub use Rattle.gr_text.specs.Numerals.{capped_count}
+use Rattle.gr_lrat.specs.Numerals.{is_up_to, is_negative, id_of}
 use Rattle.gr_lrat.specs.declared.numerals.ListToken.{ListToken}
 use Rattle.gr_lrat.specs.declared.numerals.ListToken.TheVariants as tokens
 
--- the value of a token's digits, up to 2^63
-abbrev pub capped_count : List ℕ → Option ℕ
-capped_count w = if is_count w then Some (min (value w) (2 ^ 63)) else None
-
--- the id of such a value
+-- the id of a value that is read up to 2^63
 abbrev pub id_of_count : Option ℕ → Option ℕ
 id_of_count None = None
 id_of_count (Some n) = if is_up_to (2 ^ 63 - 1) n then Some n else None

@@ -1,12 +1,13 @@
 -- the laws of written logs
-use Rattle.std.specs.Prelude.{◌≡◌, ℕ, ◌<◌, List, length, All, Some}
+use Rattle.std.specs.Prelude.{◌≡◌, ℕ, ◌+◌, ◌-◌, ◌<◌, false, List, ◌∷◌, ◌++◌, length, map, All, Some}
 use Rattle.gr_logic.specs.Formulas.{Cnf, VarsUpTo}
 use Rattle.gr_logic.specs.Log.{HasIds, Cause, refusal, Accepts}
 use Rattle.gr_logic.specs.declared.lines.Line.{Line}
 use Rattle.gr_logic.specs.declared.lines.Line.TheVariants.{Add, Delete}
 use Rattle.gr_lrat.specs.Writing.{line_text, log_text}
 use Rattle.gr_lrat.specs.Lines.{Spelled, line_read}
-use Rattle.gr_lrat.specs.Logs.{log_outcome, Verified, Refused}
+use Rattle.gr_text.specs.Tokens.{is_line_feed}
+use Rattle.gr_lrat.specs.Logs.{LogEnd, AtEnd, AtBadLine, AtRatHint, AtLimit, LogRead, NumberedLine, ends, with_line, log_read, log_outcome, Verified, Refused}
 
 -- the line's literals are ones that the program knows
 abbrev pub HasLiterals : Line → Type 0
@@ -43,3 +44,29 @@ abbrev pub WrittenLogsReadBack : Type 0
 WrittenLogsReadBack =
     (f : Cnf) (lines : List Line) (most : ℕ) → All IsWritable lines → length (log_text lines) < most
     → ReadsBack f lines most
+
+-- the numbers of lines, greater by one
+abbrev pub end_below : LogEnd → LogEnd
+end_below AtEnd = AtEnd
+end_below (AtBadLine n) = AtBadLine (n + 1)
+end_below (AtRatHint n) = AtRatHint (n + 1)
+end_below (AtLimit n) = AtLimit (n + 1)
+
+abbrev pub line_below : NumberedLine → NumberedLine
+line_below x = record { number = x.number + 1; line = x.line }
+
+-- what is read of a text that stands one line lower
+abbrev pub read_below : LogRead → LogRead
+read_below read = record { lines = map line_below read.lines; end = end_below read.end }
+
+-- a log is read line by line: what the bytes before the first line feed spell comes first, and then what is
+-- read of the bytes behind it; a text with no line feed is one line
+pub record ReadsByLines (most : ℕ) (line : List ℕ) : Type 0 where
+  pub first : (rest : List ℕ) → length line + 1 < most
+      → log_read most (line ++ 10 ∷ rest)
+      ≡ with_line (line_read line) 1 (read_below (log_read (most - (length line + 1)) rest))
+  pub last : length line < most → log_read most line ≡ with_line (line_read line) 1 (ends AtEnd)
+
+-- and so it is for every line
+abbrev pub LogsAreReadByLines : Type 0
+LogsAreReadByLines = (most : ℕ) (line : List ℕ) → All (λ b. is_line_feed b ≡ false) line → ReadsByLines most line

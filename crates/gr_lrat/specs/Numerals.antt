@@ -1,25 +1,7 @@
 -- what a token of a proof log says as a number
-use Rattle.std.specs.Prelude.{ℕ, ◌+◌, ◌*◌, ◌-◌, ◌^◌, Bool, true, false, ◌&&◌, nat_eq, nat_le, if◌then◌else◌, List, [], ◌∷◌, Option, Some, None}
-use Rattle.std.specs.List.{list_all}
+use Rattle.std.specs.Prelude.{ℕ, ◌-◌, ◌^◌, Bool, true, false, ◌&&◌, nat_eq, nat_le, if◌then◌else◌, List, [], ◌∷◌, Option, Some, None}
+pub use Rattle.gr_text.specs.Numerals.{is_digit, value_after, value, is_count}
 use Rattle.gr_logic.specs.Literals.{Literal}
-
--- a byte that is a decimal digit
-abbrev pub is_digit : ℕ → Bool
-is_digit b = nat_le 48 b && nat_le b 57
-
--- the value of these digits behind those of a number
-abbrev pub value_after : ℕ → List ℕ → ℕ
-value_after n [] = n
-value_after n (d ∷ ds) = value_after (10 * n + (d - 48)) ds
-
--- the value of digits
-abbrev pub value : List ℕ → ℕ
-value ds = value_after 0 ds
-
--- one or more digits
-abbrev pub is_count : List ℕ → Bool
-is_count [] = false
-is_count (b ∷ bs) = list_all is_digit (b ∷ bs)
 
 -- a minus sign, and one or more digits
 abbrev pub is_negative : List ℕ → Bool

@@ -2,8 +2,9 @@
 ghost use Rattle.std.specs.Prelude.{◌≡◌, ◌≤◌, ◌<◌, ℕ, [], ◌∷◌, false, List, IfOk, IfErr};
 ghost use Rattle.std.specs.Option.{option_map_or};
 ghost use Rattle.gr_io.specs.Pieces.{Rose};
-ghost use Rattle.gr_text.specs.Places.{Takes, known, limit_of};
-ghost use Rattle.gr_text.specs.Scans.{Keeps};
+ghost use Rattle.gr_text.specs.Places.{known, limit_of};
+ghost use Rattle.gr_text.specs.Scans.{IsAnswer};
+ghost use Rattle.gr_text.specs.Stands.{Goes, stand};
 ghost use Rattle.gr_lrat.specs.Lines.{Misspelt, addition_with, addition_from, ids_from};
 ghost use Rattle.gr_lrat.specs.Stages.{Passes};
 ghost use Rattle.gr_lrat.specs.Statements.{TellsStatement, list_of, spelling_of};
@@ -31,12 +32,12 @@ pub fn read_addition<S: Source>(
         scanner.new.held (S.left scanner.new.source.now) }
     ensures onward { IfOk result (λ statement. Passes statement.end scanner.old.held
         scanner.new.held) }
-    ensures takes { Takes scanner.old.held (S.left scanner.old.source.now)
-        scanner.new.held (S.left scanner.new.source.now) }
-    ensures keeps { Keeps scanner.old.held scanner.new.held }
+    ensures goes { Goes (stand S.left S.taken S.faults scanner.old.held scanner.old.source.now)
+        (stand S.left S.taken S.faults scanner.new.held scanner.new.source.now) }
     ensures fault { IfErr result (λ e. e ≡ ScanError.ReadFault →
         Rose (S.faults scanner.old.source.now) (S.faults scanner.new.source.now)) }
-    ensures grows { S.faults scanner.old.source.now ≤ S.faults scanner.new.source.now }
+    ensures calm { IsAnswer result →
+        S.faults scanner.new.source.now ≡ S.faults scanner.old.source.now }
 {
     match id {
         Some(id) => read_literals(alloc, scanner, id),
@@ -57,12 +58,12 @@ fn read_literals<S: Source>(
         scanner.new.held (S.left scanner.new.source.now) }
     ensures onward { IfOk result (λ statement. Passes statement.end scanner.old.held
         scanner.new.held) }
-    ensures takes { Takes scanner.old.held (S.left scanner.old.source.now)
-        scanner.new.held (S.left scanner.new.source.now) }
-    ensures keeps { Keeps scanner.old.held scanner.new.held }
+    ensures goes { Goes (stand S.left S.taken S.faults scanner.old.held scanner.old.source.now)
+        (stand S.left S.taken S.faults scanner.new.held scanner.new.source.now) }
     ensures fault { IfErr result (λ e. e ≡ ScanError.ReadFault →
         Rose (S.faults scanner.old.source.now) (S.faults scanner.new.source.now)) }
-    ensures grows { S.faults scanner.old.source.now ≤ S.faults scanner.new.source.now }
+    ensures calm { IsAnswer result →
+        S.faults scanner.new.source.now ≡ S.faults scanner.old.source.now }
 {
     let mut clause = Clause::new(alloc);
     'tokens: loop {
@@ -101,12 +102,12 @@ fn read_hints<S: Source>(
         scanner.new.held (S.left scanner.new.source.now) }
     ensures onward { IfOk result (λ statement. Passes statement.end scanner.old.held
         scanner.new.held) }
-    ensures takes { Takes scanner.old.held (S.left scanner.old.source.now)
-        scanner.new.held (S.left scanner.new.source.now) }
-    ensures keeps { Keeps scanner.old.held scanner.new.held }
+    ensures goes { Goes (stand S.left S.taken S.faults scanner.old.held scanner.old.source.now)
+        (stand S.left S.taken S.faults scanner.new.held scanner.new.source.now) }
     ensures fault { IfErr result (λ e. e ≡ ScanError.ReadFault →
         Rose (S.faults scanner.old.source.now) (S.faults scanner.new.source.now)) }
-    ensures grows { S.faults scanner.old.source.now ≤ S.faults scanner.new.source.now }
+    ensures calm { IsAnswer result →
+        S.faults scanner.new.source.now ≡ S.faults scanner.old.source.now }
 {
     match read_list(alloc, scanner) {
         Ok(listed) => Ok(Statement {

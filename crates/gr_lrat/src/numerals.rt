@@ -1,17 +1,15 @@
 // The tokens of a log as numbers.
-ghost use Rattle.std.specs.Prelude.{◌≡◌, ◌≤◌, ◌+◌, ◌*◌, ◌-◌, ℕ, Some, None, min};
+ghost use Rattle.std.specs.Prelude.{◌≡◌, ◌≤◌, ◌-◌};
 ghost use Rattle.gr_logic.specs.Literals.{Literal};
 ghost use Rattle.gr_lrat.specs.Lines.{begins_comment, is_byte};
 ghost use Rattle.gr_lrat.specs.Numerals.{id_of, literal_said, signed_literal};
-ghost use Rattle.gr_lrat.specs.Counts.{SaysInList, capped_count, id_of_count};
+ghost use Rattle.gr_lrat.specs.Counts.{SaysInList, id_of_count};
 
 use gr_logic::Lit;
+use gr_text::count;
 
-/// One more than the greatest id: from here on a number's size no longer matters.
+/// One more than the greatest id: values are read up to here.
 const CAP: u64 = 9_223_372_036_854_775_808;
-
-/// The greatest number that has room for one more digit below the cap.
-const ROOM: u64 = 922_337_203_685_477_580;
 
 /// What a token says in a list of ids.
 #[derive(Clone, Copy, Debug, PartialEq, Eq)]
@@ -19,40 +17,6 @@ pub enum ListToken {
     Id(u64),
     Negative,
     Other,
-}
-
-/// The value of the digits, or the cap where it is above; `None` where the token is no number.
-pub fn count(token: &[u8]) -> Option<u64>
-    ensures { result ≡ capped_count token.now }
-{
-    if token.is_empty() {
-        return None;
-    }
-    let mut size: u64 = 0;
-    for byte in token {
-        if *byte < b'0' || *byte > b'9' {
-            return None;
-        }
-        size = next_size(size, *byte);
-    }
-    Some(size)
-}
-
-/// The value with one more digit, or the cap.
-fn next_size(size: u64, digit: u8) -> u64
-    requires low { 48 ≤ digit }
-    requires high { digit ≤ 57 }
-    requires small { size ≤ CAP }
-    ensures { result ≡ min (10 * size + (digit - 48)) CAP }
-{
-    // Below this only the sum is needed, which is so for all numbers of a real log.
-    if size < ROOM {
-        return size * 10 + u64::from(digit - b'0');
-    }
-    if size > ROOM {
-        return CAP;
-    }
-    (size * 10 + u64::from(digit - b'0')).min(CAP)
 }
 
 /// The id of a number's capped value.

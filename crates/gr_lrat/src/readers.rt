@@ -1,17 +1,19 @@
 // The reader of logs.
-ghost use Rattle.std.specs.Prelude.{◌≡◌, ◌≤◌, ℕ, true, false, List, None, IfOk, IfErr};
+ghost use Rattle.std.specs.Prelude.{◌≡◌, ◌≤◌, ℕ, true, false, List, None, IsOk, IfOk, IfErr};
 ghost use Rattle.std.specs.Option.{option_map};
 ghost use Rattle.gr_io.specs.Pieces.{Rose};
-ghost use Rattle.gr_text.specs.Places.{Takes, known, limit_of};
+ghost use Rattle.gr_text.specs.Places.{known, limit_of};
+ghost use Rattle.gr_text.specs.Stands.{stand};
 ghost use Rattle.gr_lrat.specs.Logs.{log_read};
 ghost use Rattle.gr_lrat.specs.Stages.{log_to_come};
-ghost use Rattle.gr_lrat.specs.Answers.{Answers, KeepsLimit, PassesLine, line_error_of};
+ghost use Rattle.gr_lrat.specs.Answers.{Answers, GoesOn, IsAnswer, PassesLine, line_error_of};
 
 use crate::statements::{Spelt, read_statement};
 use gr_io::Source;
 use gr_logic::{Line, OutOfMemory};
-use gr_text::{ScanError, Scanner};
+use gr_text::{Held, ScanError, Scanner};
 use std::alloc::Global;
+use std::mem;
 use thiserror::Error;
 
 /// A line of a log and its number in the text, where blank lines and comments count.
@@ -47,54 +49,73 @@ fn line_error(failed: ScanError) -> LineError
 }
 
 /// Reads a proof log line by line. After an error it may only be dropped.
-#[derive(Drop)]
-pub struct LineReader<'a, S: Source> {
-    scanner: Scanner<'a, S>,
+///
+/// `H` is always `Held`, as it is for a `Scanner`.
+pub struct LineReader<'a, S: Source, H: Drop = Held> {
+    source: &'a mut S,
+    held: H,
     alloc: Global,
     ended: bool,
 }
 
+impl<'a, S: Source, H: Drop> Drop for LineReader<'a, S, H> {
+    fn drop(self)
+        ensures { self.exit.0.now ≡ self.entry.source.now }
+    {
+        let LineReader {
+            source: _,
+            held: _,
+            alloc: _,
+            ended: _,
+        } = self;
+    }
+}
+
 impl<'a, S: Source> LineReader<'a, S> {
-    /// A reader of what the source has left, of which it takes at most `max_bytes` bytes.
+    /// A reader of what the source has left, of which it takes at most `max_bytes` bytes. It never
+    /// fails, since it asks for no memory: the first line that is read asks for a buffer.
     pub fn new(
         alloc: Global,
         source: &'a mut S,
         max_bytes: u64,
     ) -> Result<LineReader<'a, S>, OutOfMemory>
-        ensures same { IfOk result (λ r. r.scanner.source.ghost_name ≡ source.entry.ghost_name) }
-        ensures source { IfOk result (λ r. r.scanner.source.now ≡ source.old) }
+        ensures succeeds { IsOk result }
+        ensures same { IfOk result (λ r. r.source.ghost_name ≡ source.entry.ghost_name) }
+        ensures source { IfOk result (λ r. r.source.now ≡ source.old) }
         ensures told { IfOk result (λ r. (limit : ℕ) →
-            log_to_come limit r.ended r.scanner.held (S.left source.old)
+            log_to_come limit r.ended r.held (S.left source.old)
             ≡ option_map (log_read limit) (S.left source.old)) }
-        ensures limit { IfOk result (λ r. limit_of r.scanner.held ≡ max_bytes) }
-        ensures known { IfOk result (λ r. known r.scanner.held ≡ 0) }
+        ensures limit { IfOk result (λ r. limit_of r.held ≡ max_bytes) }
+        ensures known { IfOk result (λ r. known r.held ≡ 0) }
     {
-        match Scanner::new(alloc, source, max_bytes) {
-            Ok(scanner) => Ok(LineReader {
-                scanner,
-                alloc,
-                ended: false,
-            }),
-            Err(_) => Err(OutOfMemory),
-        }
+        Ok(LineReader {
+            source,
+            held: Held::new(alloc, max_bytes),
+            alloc,
+            ended: false,
+        })
     }
 
     /// The next line, or `None` at the end of the text.
     pub fn next(&mut self) -> Result<Option<Numbered>, LineError>
-        ensures same { self.new.scanner.source.ghost_name ≡ self.old.scanner.source.ghost_name }
+        ensures same { self.new.source.ghost_name ≡ self.old.source.ghost_name }
         ensures answers { Answers result
-            self.old.ended self.old.scanner.held (S.left self.old.scanner.source.now)
-            self.new.ended self.new.scanner.held (S.left self.new.scanner.source.now) }
-        ensures passes { PassesLine result self.old.scanner.held self.new.scanner.held }
-        ensures takes { Takes self.old.scanner.held (S.left self.old.scanner.source.now)
-            self.new.scanner.held (S.left self.new.scanner.source.now) }
+            self.old.ended self.old.held (S.left self.old.source.now)
+            self.new.ended self.new.held (S.left self.new.source.now) }
+        ensures passes { PassesLine result self.old.held self.new.held }
         ensures ended { IfOk result (λ found. found ≡ None → self.new.ended ≡ true) }
-        ensures keeps { KeepsLimit self.old.scanner.held self.new.scanner.held }
+        ensures goes { GoesOn (stand S.left S.taken S.faults self.old.held self.old.source.now)
+            (stand S.left S.taken S.faults self.new.held self.new.source.now) }
         ensures fault { IfErr result (λ e. e ≡ LineError.ReadFault →
-            Rose (S.faults self.old.scanner.source.now) (S.faults self.new.scanner.source.now)) }
-        ensures grows { S.faults self.old.scanner.source.now ≤ S.faults self.new.scanner.source.now }
+            Rose (S.faults self.old.source.now) (S.faults self.new.source.now)) }
+        ensures calm { IsAnswer result →
+            S.faults self.new.source.now ≡ S.faults self.old.source.now }
     {
-        next_line(self.alloc, &mut self.scanner, &mut self.ended)
+        let held = mem::replace(&mut self.held, Held::new(self.alloc, 0));
+        let mut scanner = Scanner::over(self.source, held);
+        let found = next_line(self.alloc, &mut scanner, &mut self.ended);
+        self.held = scanner.into_held();
+        found
     }
 }
 
@@ -110,13 +131,13 @@ pub fn next_line<S: Source>(
         ended.old scanner.old.held (S.left scanner.old.source.now)
         ended.new scanner.new.held (S.left scanner.new.source.now) }
     ensures passes { PassesLine result scanner.old.held scanner.new.held }
-    ensures takes { Takes scanner.old.held (S.left scanner.old.source.now)
-        scanner.new.held (S.left scanner.new.source.now) }
     ensures ended { IfOk result (λ found. found ≡ None → ended.new ≡ true) }
-    ensures keeps { KeepsLimit scanner.old.held scanner.new.held }
+    ensures goes { GoesOn (stand S.left S.taken S.faults scanner.old.held scanner.old.source.now)
+        (stand S.left S.taken S.faults scanner.new.held scanner.new.source.now) }
     ensures fault { IfErr result (λ e. e ≡ LineError.ReadFault →
         Rose (S.faults scanner.old.source.now) (S.faults scanner.new.source.now)) }
-    ensures grows { S.faults scanner.old.source.now ≤ S.faults scanner.new.source.now }
+    ensures calm { IsAnswer result →
+        S.faults scanner.new.source.now ≡ S.faults scanner.old.source.now }
 {
     'lines: while !*ended {
         let statement = match read_statement(alloc, scanner) {

@@ -1,8 +1,8 @@
 // A line of a log, read to its end.
 ghost use Rattle.std.specs.Prelude.{◌≡◌, ◌≤◌, ◌<◌, ℕ, [], ◌∷◌, false, if◌then◌else◌, List, IfOk, IfErr};
 ghost use Rattle.gr_io.specs.Pieces.{Rose};
-ghost use Rattle.gr_text.specs.Places.{Takes};
-ghost use Rattle.gr_text.specs.Scans.{Keeps};
+ghost use Rattle.gr_text.specs.Scans.{IsAnswer};
+ghost use Rattle.gr_text.specs.Stands.{Goes, stand};
 ghost use Rattle.gr_lrat.specs.Lines.{Nothing, Misspelt, deletion_with, ids_from, statement_of, spelling};
 ghost use Rattle.gr_lrat.specs.Stages.{Passes, PassesBytes};
 ghost use Rattle.gr_lrat.specs.Statements.{TellsStatement, list_of, spelling_of};
@@ -13,7 +13,7 @@ use crate::numerals;
 use crate::pieces::{Ending, Piece, next_piece, skip_rest};
 use gr_io::Source;
 use gr_logic::Line;
-use gr_text::{ScanError, Scanner};
+use gr_text::{ScanError, Scanner, count};
 use std::alloc::Global;
 
 /// What a line spells: nothing, where it is blank or a comment; a line of the log; or it is misspelt,
@@ -46,12 +46,12 @@ pub fn read_statement<S: Source>(
         scanner.old.held scanner.new.held) }
     ensures onward { IfOk result (λ statement. Passes statement.end scanner.old.held
         scanner.new.held) }
-    ensures takes { Takes scanner.old.held (S.left scanner.old.source.now)
-        scanner.new.held (S.left scanner.new.source.now) }
-    ensures keeps { Keeps scanner.old.held scanner.new.held }
+    ensures goes { Goes (stand S.left S.taken S.faults scanner.old.held scanner.old.source.now)
+        (stand S.left S.taken S.faults scanner.new.held scanner.new.source.now) }
     ensures fault { IfErr result (λ e. e ≡ ScanError.ReadFault →
         Rose (S.faults scanner.old.source.now) (S.faults scanner.new.source.now)) }
-    ensures grows { S.faults scanner.old.source.now ≤ S.faults scanner.new.source.now }
+    ensures calm { IsAnswer result →
+        S.faults scanner.new.source.now ≡ S.faults scanner.old.source.now }
 {
     match next_piece(scanner) {
         Ok(Piece::Token) => {}
@@ -75,12 +75,12 @@ fn pass_comment<S: Source>(scanner: &mut Scanner<'_, S>) -> Result<Statement, Sc
         scanner.new.held (S.left scanner.new.source.now) }
     ensures onward { IfOk result (λ statement. Passes statement.end scanner.old.held
         scanner.new.held) }
-    ensures takes { Takes scanner.old.held (S.left scanner.old.source.now)
-        scanner.new.held (S.left scanner.new.source.now) }
-    ensures keeps { Keeps scanner.old.held scanner.new.held }
+    ensures goes { Goes (stand S.left S.taken S.faults scanner.old.held scanner.old.source.now)
+        (stand S.left S.taken S.faults scanner.new.held scanner.new.source.now) }
     ensures fault { IfErr result (λ e. e ≡ ScanError.ReadFault →
         Rose (S.faults scanner.old.source.now) (S.faults scanner.new.source.now)) }
-    ensures grows { S.faults scanner.old.source.now ≤ S.faults scanner.new.source.now }
+    ensures calm { IsAnswer result →
+        S.faults scanner.new.source.now ≡ S.faults scanner.old.source.now }
 {
     match skip_rest(scanner) {
         Ok(end) => Ok(Statement {
@@ -99,12 +99,12 @@ pub fn misspelt<S: Source>(scanner: &mut Scanner<'_, S>) -> Result<Statement, Sc
         scanner.new.held (S.left scanner.new.source.now) }
     ensures onward { IfOk result (λ statement. Passes statement.end scanner.old.held
         scanner.new.held) }
-    ensures takes { Takes scanner.old.held (S.left scanner.old.source.now)
-        scanner.new.held (S.left scanner.new.source.now) }
-    ensures keeps { Keeps scanner.old.held scanner.new.held }
+    ensures goes { Goes (stand S.left S.taken S.faults scanner.old.held scanner.old.source.now)
+        (stand S.left S.taken S.faults scanner.new.held scanner.new.source.now) }
     ensures fault { IfErr result (λ e. e ≡ ScanError.ReadFault →
         Rose (S.faults scanner.old.source.now) (S.faults scanner.new.source.now)) }
-    ensures grows { S.faults scanner.old.source.now ≤ S.faults scanner.new.source.now }
+    ensures calm { IsAnswer result →
+        S.faults scanner.new.source.now ≡ S.faults scanner.old.source.now }
 {
     match skip_rest(scanner) {
         Ok(end) => Ok(Statement {
@@ -126,14 +126,14 @@ fn read_tokens<S: Source>(
         scanner.new.held (S.left scanner.new.source.now) }
     ensures onward { IfOk result (λ statement. Passes statement.end scanner.old.held
         scanner.new.held) }
-    ensures takes { Takes scanner.old.held (S.left scanner.old.source.now)
-        scanner.new.held (S.left scanner.new.source.now) }
-    ensures keeps { Keeps scanner.old.held scanner.new.held }
+    ensures goes { Goes (stand S.left S.taken S.faults scanner.old.held scanner.old.source.now)
+        (stand S.left S.taken S.faults scanner.new.held scanner.new.source.now) }
     ensures fault { IfErr result (λ e. e ≡ ScanError.ReadFault →
         Rose (S.faults scanner.old.source.now) (S.faults scanner.new.source.now)) }
-    ensures grows { S.faults scanner.old.source.now ≤ S.faults scanner.new.source.now }
+    ensures calm { IsAnswer result →
+        S.faults scanner.new.source.now ≡ S.faults scanner.old.source.now }
 {
-    let first = numerals::count(scanner.token());
+    let first = count(scanner.token());
     match next_piece(scanner) {
         Ok(Piece::Token) => {}
         Ok(Piece::End(end)) => return Ok(Statement {
@@ -162,12 +162,12 @@ fn read_deletion<S: Source>(
         scanner.new.held (S.left scanner.new.source.now) }
     ensures onward { IfOk result (λ statement. Passes statement.end scanner.old.held
         scanner.new.held) }
-    ensures takes { Takes scanner.old.held (S.left scanner.old.source.now)
-        scanner.new.held (S.left scanner.new.source.now) }
-    ensures keeps { Keeps scanner.old.held scanner.new.held }
+    ensures goes { Goes (stand S.left S.taken S.faults scanner.old.held scanner.old.source.now)
+        (stand S.left S.taken S.faults scanner.new.held scanner.new.source.now) }
     ensures fault { IfErr result (λ e. e ≡ ScanError.ReadFault →
         Rose (S.faults scanner.old.source.now) (S.faults scanner.new.source.now)) }
-    ensures grows { S.faults scanner.old.source.now ≤ S.faults scanner.new.source.now }
+    ensures calm { IsAnswer result →
+        S.faults scanner.new.source.now ≡ S.faults scanner.old.source.now }
 {
     if !numbered {
         return misspelt(scanner);

@@ -5,5 +5,9 @@ pub mod Leads
 pub mod Skips
 pub mod Printing
 pub mod Taken
+pub mod Going
 pub mod Ends
 pub mod Readings
+pub mod Capped
+pub mod Words
+pub mod Digits

@@ -5,7 +5,7 @@ use Rattle.std.specs.List.{prefix_len}
 use Rattle.std.proofs.lemmas.List.Sums.{prefix_len-le-length}
 use Rattle.gr_text.specs.Tokens.{is_space, is_line_feed, is_empty, Mark, Break, Stop, Cut, marks, ended, from_line_end}
 use Rattle.gr_text.specs.Places.{Place, between, taken, known, limit_of, coming, past_rest, Filled, Leads}
-use Rattle.gr_text.specs.Scans.{Skips}
+use Rattle.gr_text.specs.Scans.{Keeps, Skips}
 use Rattle.gr_text.proofs.Taken.{after-drop}
 use Rattle.gr_text.proofs.Marks.{spot, bool_cases, last_after, last_after-same, nat_eq-suc, prefix_len-yes, prefix_len-no}
 use Rattle.gr_text.proofs.Leads.{option_map-same, option_map-twice, leads-piece, cut-here}
@@ -107,6 +107,11 @@ pub record Passes (p : Place) (l : Option (List ℕ)) (q : Place) (r : Option (L
       → option_map from_line_end (coming limit p l) ≡ option_map from_line_end (coming limit q r)
   pub grows : known p ≤ known q
   pub limit : limit_of q ≡ limit_of p
+
+pub passes-kept : (p q : Place) (l r : Option (List ℕ)) → Passes p l q r → known q ≤ limit_of q
+    → Keeps p q
+passes-kept p q l r passes within =
+    record { limit = passes.limit; within = within; grows = passes.grows }
 
 pub passes-then : (p q o : Place) (l r k : Option (List ℕ)) → Passes p l q r → Passes q r o k
     → Passes p l o k

@@ -5,7 +5,7 @@ use Rattle.std.proofs.lemmas.List.{length-append, length-drop, append_assoc}
 use Rattle.std.proofs.lemmas.List.Sums.{prefix_len-le-length}
 use Rattle.gr_io.specs.Pieces.{ComesOff}
 use Rattle.gr_text.specs.Tokens.{is_space, is_blank, is_line_feed}
-use Rattle.gr_text.specs.Places.{Place, passing, taken, past_spaces, past_word, past_rest, past_line, past_token, Filled, Takes}
+use Rattle.gr_text.specs.Places.{Place, passing, taken, past_spaces, past_word, past_rest, past_line, Filled, Takes}
 
 comes_off_nothing : (o : Option (List ℕ)) → ComesOff [] o o
 comes_off_nothing None = refl
@@ -33,27 +33,37 @@ takes-then p q o l r k first second = record {
 pub after-drop : (xs : List ℕ) (n : ℕ) → n ≤ length xs → n + length (drop n xs) ≡ length xs
 after-drop xs n h = omega (arith, length-drop n xs)
 
-takes-passing : (n : ℕ) (p : Place) (l : Option (List ℕ))
-    → n ≤ length p.ahead → Takes p l (passing n p) l
-takes-passing n p l within =
+-- bytes that are passed were taken before
+same-passing : (n : ℕ) (p : Place) → n ≤ length p.ahead → taken (passing n p) ≡ taken p
+same-passing n p within =
     let rest : n + length (drop n p.ahead) ≡ length p.ahead = after-drop p.ahead n within in
-    takes-nothing p (passing n p) l (omega arith)
+    omega arith
 
-pub takes-spaces : (p : Place) (l : Option (List ℕ)) → Takes p l (past_spaces p) l
-takes-spaces p l = takes-passing _ p l (prefix_len-le-length is_space p.ahead)
+pub same-spaces : (p : Place) → taken (past_spaces p) ≡ taken p
+same-spaces p = same-passing _ p (prefix_len-le-length is_space p.ahead)
 
-pub takes-rest : (p : Place) (l : Option (List ℕ)) → Takes p l (past_rest p) l
-takes-rest p l = takes-passing _ p l (prefix_len-le-length (λ b. not (is_line_feed b)) p.ahead)
+pub same-rest : (p : Place) → taken (past_rest p) ≡ taken p
+same-rest p = same-passing _ p (prefix_len-le-length (λ b. not (is_line_feed b)) p.ahead)
 
-pub takes-word : (p : Place) (l : Option (List ℕ)) → Takes p l (past_word p) l
-takes-word p l =
+pub same-word : (p : Place) → taken (past_word p) ≡ taken p
+same-word p =
     let n = prefix_len (λ b. not (is_blank b)) p.ahead in
     let rest : n + length (drop n p.ahead) ≡ length p.ahead =
     after-drop p.ahead n (prefix_len-le-length (λ b. not (is_blank b)) p.ahead) in
-    takes-nothing p (past_word p) l (omega arith)
+    omega arith
+
+pub same-line : (p : Place) → 0 < length p.ahead → taken (past_line p) ≡ taken p
+same-line p some = omega (arith, length-drop 1 p.ahead)
+
+-- as many bytes were taken as the source gave
+pub filled-count : (n : ℕ) (q o : Place) (r k : Option (List ℕ)) → q.ahead ≡ [] → Filled n q r o k
+    → taken o ≡ taken q + n
+filled-count n q o r k none filled =
+    let empty : length q.ahead ≡ 0 = rw none refl in
+    rw filled.place (omega (arith, empty, filled.count))
 
 -- a piece was taken where nothing was ahead
-filled-takes : (n : ℕ) (q o : Place) (r k : Option (List ℕ)) → q.ahead ≡ [] → Filled n q r o k
+pub filled-takes : (n : ℕ) (q o : Place) (r k : Option (List ℕ)) → q.ahead ≡ [] → Filled n q r o k
     → Takes q r o k
 filled-takes n q o r k none filled =
     let empty : length q.ahead ≡ 0 = rw none refl in
@@ -62,18 +72,3 @@ filled-takes n q o r k none filled =
       count = rw filled.place (omega (arith, empty));
       left = filled.left;
     }
-
--- a piece was taken, and then bytes are passed
-pub takes-on : {n : ℕ} (p q o x : Place) (l r k : Option (List ℕ)) → Takes o k x k → Takes p l q r
-    → q.ahead ≡ [] → Filled n q r o k → Takes p l x k
-takes-on {n = n} p q o x l r k passed before none filled =
-    takes-then p o x l k k (takes-then p q o l r k before (filled-takes n q o r k none filled))
-    passed
-
--- a line's end was passed
-pub takes-line : (p : Place) (l : Option (List ℕ)) → 0 < length p.ahead → Takes p l (past_line p) l
-takes-line p l some = takes-nothing p (past_line p) l (omega (arith, length-drop 1 p.ahead))
-
--- a token has ended
-pub takes-token : (p : Place) (l : Option (List ℕ)) → Takes p l (past_token p) l
-takes-token p l = takes-nothing p (past_token p) l refl

@@ -1,5 +1,5 @@
 -- what a scanner's calls answer
-use Rattle.std.specs.Prelude.{◌≡◌, ℕ, ◌≤◌, ◌<◌, List, [], ◌∷◌, length, Bool, true, false, Option, Result, Ok}
+use Rattle.std.specs.Prelude.{◌≡◌, ℕ, ◌≤◌, ◌<◌, List, [], ◌∷◌, length, Bool, true, false, Option, Result, Ok, Err}
 use Rattle.std.specs.Option.{option_map}
 use Rattle.gr_text.specs.Tokens.{Mark, Word, Break, Stop, Cut, Spot, from_line_end}
 use Rattle.gr_text.specs.Places.{Place, taken, known, coming, coming_from, between, inside, limit_of, Leads, BeginsPastSpaces, BeginsBlank, IsPastEnd, no_token}
@@ -74,6 +74,17 @@ EndsAgain result p q = IsPastEnd p → (result ≡ Ok (End p.line)) × (q ≡ no
 abbrev pub scan_error_of : SourceError → ScanError
 scan_error_of Fault = errors.ReadFault
 scan_error_of OutOfMemory = errors.OutOfMemory
+
+-- as many bytes were taken as may be: neither a failed read nor want of memory is told
+abbrev pub IsTold : ScanError → Type 0
+IsTold (errors.TooLong line) = Unit {0}
+IsTold errors.ReadFault = ⊥
+IsTold errors.OutOfMemory = ⊥
+
+-- what was asked was answered, or no more bytes may be taken
+abbrev pub IsAnswer : {T : Type 0} → Result T ScanError → Type 0
+IsAnswer (Ok x) = Unit {0}
+IsAnswer (Err failed) = IsTold failed
 
 -- the limit on bytes is kept, and what is known lies within it
 pub record Keeps (p q : Place) : Type 0 where

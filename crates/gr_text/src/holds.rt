@@ -5,12 +5,11 @@ ghost use Rattle.gr_io.specs.Pieces.{ComesOff, IsSpent, Rose};
 ghost use Rattle.gr_text.specs.Places.{Place, at_start, taken, known, limit_of, past_spaces, past_rest, past_word, past_token, past_line, with_piece, BeginsLineEnd, BeginsWord, BeginsPastSpaces, Filled};
 
 use crate::runs;
-use crate::scanners::ScanError;
 use gr_io::{Source, SourceError};
 use std::alloc::{AllocError, Global};
 use std::marker::Model;
 
-/// How many bytes are held at first.
+/// How many bytes find room in the first buffer.
 const ROOM: usize = 65536;
 
 /// Bytes that were taken from the source, and the present token among them. A contract sees the place
@@ -54,17 +53,13 @@ impl Model for Held {
 }
 
 impl Held {
-    /// Holds nothing yet, at the front of a text of which at most `max_bytes` bytes may be taken.
-    pub fn new(alloc: Global, max_bytes: u64) -> Result<Held, ScanError>
-        ensures ok { IfOk result (λ h. h ≡ at_start max_bytes) }
-        ensures err { IfErr result (λ e. e ≡ ScanError.OutOfMemory) }
+    /// Holds nothing yet, at the front of a text of which at most `max_bytes` bytes may be taken. It
+    /// asks for no memory: the first read asks for the buffer.
+    pub fn new(alloc: Global, max_bytes: u64) -> Held
+        ensures { result ≡ at_start max_bytes }
     {
-        let bytes = match Vec::from_elem(alloc, 0u8, ROOM) {
-            Ok(bytes) => bytes,
-            Err(_) => return Err(ScanError::OutOfMemory),
-        };
-        Ok(Held {
-            bytes,
+        Held {
+            bytes: Vec::new(alloc),
             from: 0,
             to: 0,
             end: 0,
@@ -74,7 +69,7 @@ impl Held {
             last: 1,
             first: true,
             ended: false,
-        })
+        }
     }
 
     /// The present token.
@@ -207,9 +202,12 @@ impl Held {
         requires open_ { self.old.ended ≡ false }
         ensures ok { IfOk result (λ n.
             Filled n self.old (S.left source.old) self.new (S.left source.new)) }
+        ensures counts { IfOk result (λ n. S.taken source.new ≡ S.taken source.old + n) }
         ensures err { OnErr result ((self.new ≡ self.old) × (S.left source.new ≡ S.left source.old)) }
+        ensures none { OnErr result (S.taken source.new ≡ S.taken source.old) }
         ensures fault { IfErr result (λ e. e ≡ SourceError.Fault →
             Rose (S.faults source.old) (S.faults source.new)) }
+        ensures calm { OnOk result (S.faults source.new ≡ S.faults source.old) }
         ensures grows { S.faults source.old ≤ S.faults source.new }
     {
         if make_room(&mut self.bytes, self.from, self.to).is_err() {

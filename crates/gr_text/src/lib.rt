@@ -1,13 +1,15 @@
-//! Texts: the tokens of what a source gives, and what is printed into a sink.
+//! Texts: the tokens of what a source gives, numbers among them, and what is printed into a sink.
 #![tactic(auto)]
 
 mod holds;
 pub mod laws;
+mod numerals;
 mod printers;
 mod runs;
 mod scanners;
 
 pub use holds::Held;
+pub use numerals::count;
 pub use printers::{Pending, Printer};
 pub use scanners::{ScanError, Scanned, Scanner};
 

@@ -62,6 +62,7 @@ impl Pending {
         ensures err { OnErr result (GainsPart self.old (K.written sink.old) (K.written sink.new)) }
         ensures fault { IfErr result (λ e. e ≡ SinkError.Fault →
             Rose (K.faults sink.old) (K.faults sink.new)) }
+        ensures calm { OnOk result (K.faults sink.new ≡ K.faults sink.old) }
         ensures grows { K.faults sink.old ≤ K.faults sink.new }
     {
         if self.len == 0 {
@@ -108,6 +109,7 @@ impl<'a, K: Sink> Printer<'a, K> {
             (K.written self.old.sink.now) (K.written self.new.sink.now)) }
         ensures fault { IfErr result (λ e. e ≡ SinkError.Fault →
             Rose (K.faults self.old.sink.now) (K.faults self.new.sink.now)) }
+        ensures calm { OnOk result (K.faults self.new.sink.now ≡ K.faults self.old.sink.now) }
         ensures grows { K.faults self.old.sink.now ≤ K.faults self.new.sink.now }
     {
         if self.pending.has_room(bytes.len()) {
@@ -138,6 +140,7 @@ impl<'a, K: Sink> Printer<'a, K> {
             (K.written self.old.sink.now) (K.written self.new.sink.now)) }
         ensures fault { IfErr result (λ e. e ≡ SinkError.Fault →
             Rose (K.faults self.old.sink.now) (K.faults self.new.sink.now)) }
+        ensures calm { OnOk result (K.faults self.new.sink.now ≡ K.faults self.old.sink.now) }
         ensures grows { K.faults self.old.sink.now ≤ K.faults self.new.sink.now }
     {
         let mut buffer = Buffer::new();
@@ -154,6 +157,7 @@ impl<'a, K: Sink> Printer<'a, K> {
             (K.written self.old.sink.now) (K.written self.new.sink.now)) }
         ensures fault { IfErr result (λ e. e ≡ SinkError.Fault →
             Rose (K.faults self.old.sink.now) (K.faults self.new.sink.now)) }
+        ensures calm { OnOk result (K.faults self.new.sink.now ≡ K.faults self.old.sink.now) }
         ensures grows { K.faults self.old.sink.now ≤ K.faults self.new.sink.now }
     {
         self.pending.send(self.sink)
@@ -180,6 +184,7 @@ mod tests {
             (K.written printer.old.sink.now) (K.written printer.new.sink.now)) }
         ensures fault { IfErr result (λ e. e ≡ SinkError.Fault →
             Rose (K.faults printer.old.sink.now) (K.faults printer.new.sink.now)) }
+        ensures calm { OnOk result (K.faults printer.new.sink.now ≡ K.faults printer.old.sink.now) }
         ensures grows { K.faults printer.old.sink.now ≤ K.faults printer.new.sink.now }
     {
         match printer.bytes(a) {
@@ -203,6 +208,7 @@ mod tests {
             (K.written out.old) (K.written out.new)) }
         ensures fault { IfErr result (λ e. e ≡ SinkError.Fault →
             Rose (K.faults out.old) (K.faults out.new)) }
+        ensures calm { OnOk result (K.faults out.new ≡ K.faults out.old) }
         ensures grows { K.faults out.old ≤ K.faults out.new }
     {
         let mut printer = Printer::new(out);

@@ -1,8 +1,9 @@
 // The scanner.
-ghost use Rattle.std.specs.Prelude.{◌≡◌, ◌≤◌, ℕ, [], length, true, false, Ok, IfOk, IfErr, OnOk, OnErr};
+ghost use Rattle.std.specs.Prelude.{◌≡◌, ◌≤◌, [], false, Ok, IsOk, IfOk, IfErr, OnOk};
 ghost use Rattle.gr_io.specs.Pieces.{Rose};
-ghost use Rattle.gr_text.specs.Places.{BeginsWord, IsPastEnd, Takes, at_start, between, no_token, taken};
-ghost use Rattle.gr_text.specs.Scans.{Fails, Reaches, Spans, Scans, Skips, SkipFails, StandsAtEnd, EndsAgain, Advances, Keeps, scan_error_of, Gives};
+ghost use Rattle.gr_text.specs.Places.{BeginsWord, IsPastEnd, at_start, between, no_token};
+ghost use Rattle.gr_text.specs.Scans.{Fails, Reaches, Spans, Scans, Skips, SkipFails, StandsAtEnd, EndsAgain, Advances, IsAnswer, scan_error_of};
+ghost use Rattle.gr_text.specs.Stands.{Goes, stand};
 
 use crate::holds::Held;
 use gr_io::{Source, SourceError};
@@ -60,28 +61,35 @@ impl<'a, S: Source, H: Drop> Drop for Scanner<'a, S, H> {
     }
 }
 
+impl<'a, S: Source, H: Drop> Scanner<'a, S, H> {
+    /// Lets the source go, and gives back the bytes that are held.
+    pub fn into_held(self) -> H
+        ensures held { result ≡ self.entry.held }
+        ensures source { self.exit.0.now ≡ self.entry.source.now }
+    {
+        let Scanner { source: _, held } = self;
+        held
+    }
+}
+
 impl<'a, S: Source> Scanner<'a, S> {
-    /// A scanner of what the source has left, which takes at most `max_bytes` bytes of it. It keeps a
-    /// buffer of 64 KB, which grows only for a token that is longer.
+    /// A scanner of what the source has left, which takes at most `max_bytes` bytes of it. It never
+    /// fails, since it asks for no memory: the first read asks for a buffer of 64 KB, which grows only
+    /// for a token that is longer.
     pub fn new(
         alloc: Global,
         source: &'a mut S,
         max_bytes: u64,
     ) -> Result<Scanner<'a, S>, ScanError>
+        ensures succeeds { IsOk result }
         ensures same { IfOk result (λ s. s.source.ghost_name ≡ source.entry.ghost_name) }
         ensures source { IfOk result (λ s. s.source.now ≡ source.old) }
         ensures held { IfOk result (λ s. s.held ≡ at_start max_bytes) }
-        ensures err { IfErr result (λ e. e ≡ ScanError.OutOfMemory) }
     {
-        let held = match Held::new(alloc, max_bytes) {
-            Ok(held) => held,
-            Err(failed) => return Err(failed),
-        };
-        Ok(Scanner { source, held })
+        Ok(Scanner::over(source, Held::new(alloc, max_bytes)))
     }
 
-    /// A scanner of a source with the bytes that are held already. It cannot fail: a caller that
-    /// makes `held` first still knows its source where there was no memory for that.
+    /// A scanner of a source with the bytes that are held already.
     pub fn over(source: &'a mut S, held: Held) -> Scanner<'a, S>
         ensures same { result.source.ghost_name ≡ source.entry.ghost_name }
         ensures source { result.source.now ≡ source.old }
@@ -99,12 +107,12 @@ impl<'a, S: Source> Scanner<'a, S> {
         ensures err { IfErr result (λ e. Fails (between self.old.held) e
             self.old.held (S.left self.old.source.now)
             self.new.held (S.left self.new.source.now)) }
-        ensures takes { Takes self.old.held (S.left self.old.source.now)
-            self.new.held (S.left self.new.source.now) }
-        ensures keeps { Keeps self.old.held self.new.held }
+        ensures goes { Goes (stand S.left S.taken S.faults self.old.held self.old.source.now)
+            (stand S.left S.taken S.faults self.new.held self.new.source.now) }
         ensures fault { IfErr result (λ e. e ≡ ScanError.ReadFault →
             Rose (S.faults self.old.source.now) (S.faults self.new.source.now)) }
-        ensures grows { S.faults self.old.source.now ≤ S.faults self.new.source.now }
+        ensures calm { IsAnswer result →
+            S.faults self.new.source.now ≡ S.faults self.old.source.now }
         ensures again { IsPastEnd self.old.held → (result ≡ Ok false)
             × (self.new.held ≡ no_token self.old.held)
             × (self.new.source.now ≡ self.old.source.now) }
@@ -139,12 +147,12 @@ impl<'a, S: Source> Scanner<'a, S> {
         ensures err { IfErr result (λ e. Fails (between self.old.held) e
             self.old.held (S.left self.old.source.now)
             self.new.held (S.left self.new.source.now)) }
-        ensures takes { Takes self.old.held (S.left self.old.source.now)
-            self.new.held (S.left self.new.source.now) }
-        ensures keeps { Keeps self.old.held self.new.held }
+        ensures goes { Goes (stand S.left S.taken S.faults self.old.held self.old.source.now)
+            (stand S.left S.taken S.faults self.new.held self.new.source.now) }
         ensures fault { IfErr result (λ e. e ≡ ScanError.ReadFault →
             Rose (S.faults self.old.source.now) (S.faults self.new.source.now)) }
-        ensures grows { S.faults self.old.source.now ≤ S.faults self.new.source.now }
+        ensures calm { IsAnswer result →
+            S.faults self.new.source.now ≡ S.faults self.old.source.now }
     {
         self.held.grow_word();
         while self.held.is_empty() {
@@ -175,12 +183,12 @@ impl<'a, S: Source> Scanner<'a, S> {
         ensures err { IfErr result (λ e. Fails (between self.old.held) e
             self.old.held (S.left self.old.source.now)
             self.new.held (S.left self.new.source.now)) }
-        ensures takes { Takes self.old.held (S.left self.old.source.now)
-            self.new.held (S.left self.new.source.now) }
-        ensures keeps { Keeps self.old.held self.new.held }
+        ensures goes { Goes (stand S.left S.taken S.faults self.old.held self.old.source.now)
+            (stand S.left S.taken S.faults self.new.held self.new.source.now) }
         ensures fault { IfErr result (λ e. e ≡ ScanError.ReadFault →
             Rose (S.faults self.old.source.now) (S.faults self.new.source.now)) }
-        ensures grows { S.faults self.old.source.now ≤ S.faults self.new.source.now }
+        ensures calm { IsAnswer result →
+            S.faults self.new.source.now ≡ S.faults self.old.source.now }
         ensures end { IfOk result (λ found. StandsAtEnd found self.new.held) }
         ensures again { EndsAgain result self.old.held self.new.held }
         ensures unasked { IsPastEnd self.old.held → self.new.source.now ≡ self.old.source.now }
@@ -216,12 +224,12 @@ impl<'a, S: Source> Scanner<'a, S> {
         ensures err { IfErr result (λ e. SkipFails e
             self.old.held (S.left self.old.source.now)
             self.new.held (S.left self.new.source.now)) }
-        ensures takes { Takes self.old.held (S.left self.old.source.now)
-            self.new.held (S.left self.new.source.now) }
-        ensures keeps { Keeps self.old.held self.new.held }
+        ensures goes { Goes (stand S.left S.taken S.faults self.old.held self.old.source.now)
+            (stand S.left S.taken S.faults self.new.held self.new.source.now) }
         ensures fault { IfErr result (λ e. e ≡ ScanError.ReadFault →
             Rose (S.faults self.old.source.now) (S.faults self.new.source.now)) }
-        ensures grows { S.faults self.old.source.now ≤ S.faults self.new.source.now }
+        ensures calm { IsAnswer result →
+            S.faults self.new.source.now ≡ S.faults self.old.source.now }
     {
         self.held.skip_rest();
         while self.held.is_empty() {

@@ -88,7 +88,8 @@ stop-behind-break : (line : ℕ) (first : Bool) (w : List ℕ) (n : ℕ) (ms : L
 stop-behind-break line first [] n ms stop = stop
 stop-behind-break line first (b ∷ bs) n ms stop = stop
 
-stop-behind-either : (c : Bool) (x y ms : List Mark) → (HasStop (x ++ ms) → HasStop ms) → (HasStop (y ++ ms) → HasStop ms)
+stop-behind-either : (c : Bool) (x y ms : List Mark) → (HasStop (x ++ ms) → HasStop ms) → (HasStop (y ++ ms)
+    → HasStop ms)
     → HasStop ((if c then x else y) ++ ms) → HasStop ms
 stop-behind-either true x y ms here there stop = here stop
 stop-behind-either false x y ms here there stop = there stop
@@ -104,7 +105,8 @@ marks-stop : (text : List ℕ) (s : Spot) (room : ℕ) → HasStop (marks s room
 marks-stop text s zero stop = absurd stop
 marks-stop [] s (suc room) stop = omega arith
 marks-stop (b ∷ text) s (suc room) stop =
-    let later : length text < room = marks-stop text (beyond s b) room (stop-behind s b (marks (beyond s b) room text) stop) in
+    let later : length text < room = marks-stop text (beyond s b) room (stop-behind s b (marks
+    (beyond s b) room text) stop) in
     omega (arith, later)
 
 line-end : (said : Spelling) (n : ℕ) (later : LogRead) → (with_line said n later).end ≡ AtEnd → later.end ≡ AtEnd

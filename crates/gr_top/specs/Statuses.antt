@@ -30,6 +30,19 @@ exit_code ReadFault = 4
 exit_code SinkFault = 5
 exit_code OutOfMemory = 6
 
+-- a status that comes only where no read failed
+abbrev pub IsWellRead : Status → Type 0
+IsWellRead Satisfiable = Unit {0}
+IsWellRead Unsatisfiable = Unit {0}
+IsWellRead Verified = Unit {0}
+IsWellRead (NotVerified reason) = Unit {0}
+IsWellRead Usage = Unit {0}
+IsWellRead (Grammar fault) = Unit {0}
+IsWellRead (LogGrammar fault) = Unit {0}
+IsWellRead SinkFault = Unit {0}
+IsWellRead ReadFault = ⊥
+IsWellRead OutOfMemory = ⊥
+
 -- the status where a sink did not take a text
 abbrev pub cut_status : SinkError → Status
 cut_status sinks.Fault = SinkFault

@@ -1,8 +1,9 @@
 // A formula and a proof log, checked.
-ghost use Rattle.std.specs.Prelude.{◌≡◌};
+ghost use Rattle.std.specs.Prelude.{◌≡◌, OnOk};
 ghost use Rattle.gr_text.specs.Places.{at_start};
 ghost use Rattle.gr_top.specs.CheckedLogs.{LogGives, shown};
 ghost use Rattle.gr_top.specs.Checking.{Checks, Judges, output, sources};
+ghost use Rattle.gr_top.specs.Statuses.{IsWellRead};
 
 use crate::refusal_texts::write_check;
 use crate::reports::{Report, ended};
@@ -20,7 +21,7 @@ const MAX_LOG_BYTES: u64 = 1_099_511_627_776;
 
 /// Checks a proof log in text LRAT against a formula in DIMACS CNF, and writes to `out` what it comes to. All of
 /// `cnf` is read, and then `log` line by line; the first line that is misspelt or refused decides. It waits for
-/// nothing. The report has neither a model nor a log.
+/// nothing. The report has neither a model nor a log. A read that fails ends the check.
 pub fn run_check<A: Source, B: Source, C: Sink>(
     alloc: Global,
     cnf: &mut A,
@@ -33,6 +34,8 @@ pub fn run_check<A: Source, B: Source, C: Sink>(
         (output (C.written out.old) (C.faults out.old)) (output (C.written out.new) (C.faults out.new))
         result }
     ensures out { result.status ≡ Status.ReadFault → out.new ≡ out.old }
+    ensures calm { IsWellRead result.status →
+        (A.faults cnf.new ≡ A.faults cnf.old) × (B.faults log.new ≡ B.faults log.old) }
 {
     match judge(alloc, cnf, log) {
         Ok(due) => ended(alloc, write_check(due, out), due),
@@ -42,9 +45,11 @@ pub fn run_check<A: Source, B: Source, C: Sink>(
 
 /// Reads the formula, and checks the log against it.
 fn judge<A: Source, B: Source>(alloc: Global, cnf: &mut A, log: &mut B) -> Result<Status, Stop>
-    ensures { Judges result
+    ensures judges { Judges result
         (sources (A.left cnf.old) (A.faults cnf.old) (B.left log.old) (B.faults log.old))
         (sources (A.left cnf.new) (A.faults cnf.new) (B.left log.new) (B.faults log.new)) }
+    ensures calm { OnOk result
+        ((A.faults cnf.new ≡ A.faults cnf.old) × (B.faults log.new ≡ B.faults log.old)) }
 {
     match read(alloc, cnf, &PROGRAM_LIMITS) {
         Ok(formula) => check_log(alloc, &formula, log),
@@ -56,13 +61,11 @@ fn judge<A: Source, B: Source>(alloc: Global, cnf: &mut A, log: &mut B) -> Resul
 
 /// Checks a proof log from its start.
 fn check_log<B: Source>(alloc: Global, formula: &Formula, log: &mut B) -> Result<Status, Stop>
-    ensures { LogGives result formula.now
+    ensures gives { LogGives result formula.now
         (shown (B.left log.old) (B.faults log.old)) (shown (B.left log.new) (B.faults log.new)) }
+    ensures calm { OnOk result (B.faults log.new ≡ B.faults log.old) }
 {
-    let Ok(held) = Held::new(alloc, MAX_LOG_BYTES) else {
-        return Err(Stop::OutOfMemory);
-    };
-    let mut scanner = Scanner::over(log, held);
+    let mut scanner = Scanner::over(log, Held::new(alloc, MAX_LOG_BYTES));
     check_lines(alloc, formula, &mut scanner)
 }
 
@@ -77,6 +80,8 @@ fn check_lines<B: Source>(
     ensures gives { LogGives result formula.now
         (shown (B.left scanner.old.source.now) (B.faults scanner.old.source.now))
         (shown (B.left scanner.new.source.now) (B.faults scanner.new.source.now)) }
+    ensures calm { OnOk result
+        (B.faults scanner.new.source.now ≡ B.faults scanner.old.source.now) }
 {
     let Ok(mut checker) = Checker::new(alloc, formula) else {
         return Err(Stop::OutOfMemory);

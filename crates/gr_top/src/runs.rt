@@ -5,6 +5,7 @@ ghost use Rattle.gr_top.specs.Checking.{Checks, output, sources};
 ghost use Rattle.gr_top.specs.Commands.{IsCheck, IsSolve, IsUnlawful};
 ghost use Rattle.gr_top.specs.Sinks.{sinks, TellsRefutation, CutRefutation};
 ghost use Rattle.gr_top.specs.Refusing.{Refuses};
+ghost use Rattle.gr_top.specs.Statuses.{IsWellRead};
 ghost use Rattle.gr_top.specs.Solving.{streams, Answers, Solves, SparesProof};
 
 use crate::branching::{Decision, decide};
@@ -54,6 +55,8 @@ pub fn run<A: Source, B: Source, C: Sink, D: Sink, G: Gate>(
     ensures proof_of_others { (IsSolve words.now → ⊥) → proof.new ≡ proof.old }
     ensures out { result.status ≡ Status.ReadFault → out.new ≡ out.old }
     ensures cnf { IsUnlawful words.now → cnf.new ≡ cnf.old }
+    ensures calm { IsWellRead result.status →
+        (A.faults cnf.new ≡ A.faults cnf.old) × (B.faults log.new ≡ B.faults log.old) }
 {
     match words.call() {
         Some((Command::Solve, _, _)) => solve(alloc, cnf, out, proof),
@@ -77,6 +80,7 @@ fn solve<A: Source, C: Sink, D: Sink>(
         result }
     ensures proof { SparesProof result.status → proof.new ≡ proof.old }
     ensures out { result.status ≡ Status.ReadFault → out.new ≡ out.old }
+    ensures calm { IsWellRead result.status → A.faults cnf.new ≡ A.faults cnf.old }
 {
     match read(alloc, cnf, &PROGRAM_LIMITS) {
         Ok(formula) => answer(alloc, &formula, out, proof),

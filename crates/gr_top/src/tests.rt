@@ -358,6 +358,11 @@ fn reads_no_further_once_a_line_decides(rt: HostRuntime) -> Result<(), Fail> {
         let mut out = TextSink::new(alloc);
         let report = run_check(alloc, &mut cnf, &mut log, &mut out);
         assert_eq!(rt; code(&report.status), want, "on {lines:?}");
+        let mut byte = [0u8; 1];
+        assert!(rt;
+            log.read(&mut byte).is_err(),
+            "on {lines:?}: the failing read was made before"
+        );
     }
     Ok(())
 }
@@ -395,5 +400,33 @@ fn checks_nothing_where_a_stream_fails(rt: HostRuntime) -> Result<(), Fail> {
             "with {formulas:?} {logs:?} {outs:?}"
         );
     }
+    Ok(())
+}
+
+#[test]
+fn takes_a_clause_and_a_lemma_of_a_thousand_literals(rt: HostRuntime) -> Result<(), Fail> {
+    let alloc = rt.alloc();
+    let mut clause = Vec::new(alloc);
+    for var in 1..1_001u64 {
+        clause.extend_from_slice(format!(in alloc; "{var} ")?.as_bytes())?;
+    }
+    let mut text = Vec::from_slice(alloc, b"p cnf 1000 1\n")?;
+    text.extend_from_slice(clause.as_slice())?;
+    text.extend_from_slice(b"0\n")?;
+    let mut lines = Vec::from_slice(alloc, b"2 ")?;
+    lines.extend_from_slice(clause.as_slice())?;
+    lines.extend_from_slice(b"0 1 0\n")?;
+    let mut out = TextSink::new(alloc);
+    let report = run_check(
+        alloc,
+        &mut TextSource::new(text),
+        &mut TextSource::new(lines),
+        &mut out,
+    );
+    assert_eq!(rt; code(&report.status), 1);
+    assert_eq!(rt;
+        out.text(),
+        b"s NOT VERIFIED\nc log: NoEmptyClause\n".as_slice()
+    );
     Ok(())
 }

@@ -2,7 +2,7 @@ use Rattle.std.proofs.Common.{◌∷◌, [], refl}
 use Rattle.gr_dimacs.specs.Grammar.{p_word, cnf_word}
 use Rattle.gr_dimacs.specs.declared.faults.FaultKind.TheVariants.{NoHeader, BadHeader}
 use Rattle.gr_dimacs.proofs.Staged.{first-fails, heads-builder, staged-count, staged-fails, staged-p, staged-vars, staged-words}
-use Rattle.gr_dimacs.proofs.Told.{goes-then}
+use Rattle.gr_text.proofs.Going.{goes-then}
 use Rattle.gr_dimacs.proofs.headers.read_header.Goals as goal
 
 pub returns-in-Err-clause-answer : goal.returns-in-Err-clause-answer

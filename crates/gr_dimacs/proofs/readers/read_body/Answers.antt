@@ -2,7 +2,8 @@ use Rattle.std.proofs.Common.{◌≤◌, ◌∙◌, sym, arith}
 use Rattle.gr_text.specs.Places.{known, limit_of}
 use Rattle.gr_dimacs.specs.Faults.{Fine}
 use Rattle.gr_dimacs.proofs.Reading.{closes-answers, end-answers, fault-undecided, grown, judged-as-number, token-goes-on}
-use Rattle.gr_dimacs.proofs.Told.{goes-then, stand_at}
+use Rattle.gr_text.specs.Stands.{stand}
+use Rattle.gr_text.proofs.Going.{goes-then}
 use Rattle.gr_dimacs.proofs.readers.read_body.Goals as goal
 
 pub returns-in-Ok-End-clause-goes : goal.returns-in-Ok-End-clause-goes
@@ -35,7 +36,7 @@ returns-in-Err-OutOfMemory-take-clause-goes g c =
 
 pub returns-in-Err-ReadFault-clause-answer : goal.returns-in-Err-ReadFault-clause-answer
 returns-in-Err-ReadFault-clause-answer g c =
-    let here = stand_at g.S.Source.left g.S.Source.faults in
+    let here = stand g.S.Source.left g.S.Source.taken g.S.Source.faults in
     let p = here c.args.scanner.now.held c.args.scanner.now.source.now in
     let q = here c.tokens.scanner.held c.tokens.scanner.source.now in
     let n = here c.next_token.new.scanner.held c.next_token.new.scanner.source.now in
@@ -45,7 +46,7 @@ returns-in-Err-ReadFault-clause-answer g c =
 
 pub returns-then-closes-clause-answer : goal.returns-then-closes-clause-answer
 returns-then-closes-clause-answer g c =
-    let here = stand_at g.S.Source.left g.S.Source.faults in
+    let here = stand g.S.Source.left g.S.Source.taken g.S.Source.faults in
     let p = here c.args.scanner.now.held c.args.scanner.now.source.now in
     let q = here c.tokens.scanner.held c.tokens.scanner.source.now in
     let n = here c.next_token.new.scanner.held c.next_token.new.scanner.source.now in
@@ -57,11 +58,11 @@ returns-then-closes-clause-answer g c =
     q n
     c.tokens.invariant.comes goes.keeps.grows within finds.0
     (rw c.token.ensures at (sym c.closes.ensures ∙ c.if-closes.true))
-    c.finish-then-closes.ensures
+    c.finish-then-closes.ensures.concludes
 
 pub tokens-preserved : goal.tokens-preserved
 tokens-preserved g c =
-    let here = stand_at g.S.Source.left g.S.Source.faults in
+    let here = stand g.S.Source.left g.S.Source.taken g.S.Source.faults in
     let p = here c.args.scanner.now.held c.args.scanner.now.source.now in
     let q = here c.tokens.scanner.held c.tokens.scanner.source.now in
     let n = here c.next_token.new.scanner.held c.next_token.new.scanner.source.now in
@@ -79,11 +80,12 @@ tokens-preserved g c =
       comes = token-goes-on c.in-Ok-Token.line c.args.builder c.tokens.builder c.take.new.self p q n
           i.comes goes.keeps.grows goes.faults finds.0 fine after;
       goes = goes-then p q n i.goes goes;
+      calm = c.in-Ok-Token.ensures.calm tt ∙ i.calm;
     }
 
 pub returns-in-Ok-End-clause-answer : goal.returns-in-Ok-End-clause-answer
 returns-in-Ok-End-clause-answer g c =
-    let here = stand_at g.S.Source.left g.S.Source.faults in
+    let here = stand g.S.Source.left g.S.Source.taken g.S.Source.faults in
     let p = here c.args.scanner.now.held c.args.scanner.now.source.now in
     let q = here c.tokens.scanner.held c.tokens.scanner.source.now in
     let n = here c.next_token.new.scanner.held c.next_token.new.scanner.source.now in
@@ -92,4 +94,17 @@ returns-in-Ok-End-clause-answer g c =
     let within : known n.place ≤ limit_of p.place =
     omega (arith, goes.keeps.within, goes.keeps.limit, c.tokens.invariant.goes.keeps.limit) in
     end-answers c.finish.result c.in-Ok-End.line c.args.builder c.tokens.builder p q n
-    c.tokens.invariant.comes goes.keeps.grows within finds c.finish.ensures
+    c.tokens.invariant.comes goes.keeps.grows within finds c.finish.ensures.concludes
+
+pub returns-in-Ok-End-clause-calm : goal.returns-in-Ok-End-clause-calm
+returns-in-Ok-End-clause-calm g c = λ told. c.in-Ok-End.ensures.calm tt ∙ c.tokens.invariant.calm
+
+pub returns-in-Ok-End-clause-full : goal.returns-in-Ok-End-clause-full
+returns-in-Ok-End-clause-full g c = λ long. absurd (c.finish.ensures.other long)
+
+pub returns-then-closes-clause-calm : goal.returns-then-closes-clause-calm
+returns-then-closes-clause-calm g c =
+    λ told. c.in-Ok-Token.ensures.calm tt ∙ c.tokens.invariant.calm
+
+pub returns-then-closes-clause-full : goal.returns-then-closes-clause-full
+returns-then-closes-clause-full g c = λ long. absurd (c.finish-then-closes.ensures.other long)

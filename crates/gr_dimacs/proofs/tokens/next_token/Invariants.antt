@@ -1,5 +1,5 @@
 use Rattle.std.proofs.Common.{◌≡◌, ◌+◌, length}
-use Rattle.gr_dimacs.specs.Stands.{stand}
+use Rattle.gr_text.specs.Stands.{stand}
 use Rattle.gr_dimacs.proofs.Told.{Onward}
 use Rattle.gr_dimacs.proofs.tokens.next_token.Given as goal
 
@@ -8,10 +8,9 @@ abbrev pub invariant-found : goal.invariant-found
 invariant-found g l = record {
   same : l.scanner.source.ghost_name ≡ l.fn.scanner.source.ghost_name;
   onward : Onward
-      (stand l.fn.scanner.held (g.S.Source.left l.fn.scanner.source.now)
-      (g.S.Source.faults l.fn.scanner.source.now))
-      (stand l.scanner.held (g.S.Source.left l.scanner.source.now)
-      (g.S.Source.faults l.scanner.source.now));
+      (stand g.S.Source.left g.S.Source.taken g.S.Source.faults l.fn.scanner.held
+      l.fn.scanner.source.now)
+      (stand g.S.Source.left g.S.Source.taken g.S.Source.faults l.scanner.held l.scanner.source.now);
 }
 
 abbrev pub decreases-found : goal.decreases-found

@@ -4,7 +4,7 @@ use Rattle.gr_lrat.specs.Lines.{Misspelt, is_byte, addition_from}
 use Rattle.gr_lrat.specs.Statements.{spelling_of}
 use Rattle.gr_lrat.proofs.Telling.{onward_here, onward_then, onward_ends, onward_fails, tells_then}
 use Rattle.gr_lrat.proofs.AdditionSteps.{zero_added, literal_added, other_added}
-use Rattle.gr_text.proofs.Taken.{takes-then, takes-nothing}
+use Rattle.gr_text.proofs.Going.{drawn, drawn-goes, draws-none, goes-drawn}
 use Rattle.gr_lrat.proofs.additions.read_literals.Goals as goal
 
 pub tokens-init : goal.tokens-init
@@ -20,8 +20,7 @@ tokens-init g c =
       within = c.requires;
       limit = refl;
       onward = omega arith;
-      takes = takes-nothing p.held p.held (g.S.Source.left p.source.now) refl;
-      grows = omega arith;
+      draws = draws-none _ _ refl;
     }
 
 pub returns-then-is_byte-clause-tells : goal.returns-then-is_byte-clause-tells
@@ -32,7 +31,7 @@ returns-then-is_byte-clause-tells g c =
     tells_then c.read_hints.result (λ read. spelling_of read.spelt) (λ read. read.end) _ _ _ _ m.held _ _
     (g.S.Source.left m.source.now)
     (zero_added c.args.id c.tokens.clause _ _ _ _ _ c.tokens.invariant.goes zero_)
-    c.read_hints.ensures.keeps.grows c.read_hints.ensures.tells
+    c.read_hints.ensures.goes.keeps.grows c.read_hints.ensures.tells
 
 pub returns-in-None-clause-tells : goal.returns-in-None-clause-tells
 returns-in-None-clause-tells g c =
@@ -44,12 +43,12 @@ returns-in-None-clause-tells g c =
     tells_then c.misspelt.result (λ read. spelling_of read.spelt) (λ read. read.end) _ _ _ _ m.held _ _
     (g.S.Source.left m.source.now)
     (other_added c.args.id c.tokens.clause _ _ _ _ _ c.tokens.invariant.goes other said)
-    c.misspelt.ensures.keeps.grows c.misspelt.ensures.tells
+    c.misspelt.ensures.goes.keeps.grows c.misspelt.ensures.tells
 
 pub tokens-preserved : goal.tokens-preserved
 tokens-preserved g c =
     let i = c.tokens.invariant in
-    let k = c.next_piece.ensures.keeps in
+    let k = c.next_piece.ensures.goes.keeps in
     let gone = rw c.in-Ok-Token.field-0-is at c.in-Ok-Token.ensures.onward in
     let then = λ (ws : List (List ℕ)). addition_from c.args.id (c.tokens.clause ++ c.in-Some.lit ∷ []) ws in
     let other : is_byte 48 c.tokens.scanner.held.token ≡ false =
@@ -66,8 +65,7 @@ tokens-preserved g c =
       within = k.within;
       limit = k.limit ∙ i.limit;
       onward = omega (arith, i.onward, gone);
-      takes = takes-then _ _ _ _ _ _ i.takes c.next_piece.ensures.takes;
-      grows = omega (arith, i.grows, c.next_piece.ensures.grows);
+      draws = drawn _ _ _ i.draws c.next_piece.ensures.goes (c.in-Ok-Token.ensures.calm tt);
     }
 
 pub returns-in-Ok-End-clause-tells : goal.returns-in-Ok-End-clause-tells
@@ -80,7 +78,7 @@ returns-in-Ok-End-clause-tells g c =
     rw c.token-in-tokens.ensures at (sym c.in-Some.ensures) in
     onward_ends _ then Misspelt c.in-Ok-End.end _ _ n.held _ _ (g.S.Source.left n.source.now)
     (literal_added c.args.id c.tokens.clause c.in-Some.lit _ _ _ _ _ c.tokens.invariant.goes other said)
-    c.next_piece.ensures.keeps.grows
+    c.next_piece.ensures.goes.keeps.grows
     (rw c.in-Ok-End.field-0-is at (c.in-Ok-End.ensures.ok then))
 
 pub returns-in-Err-clause-tells : goal.returns-in-Err-clause-tells
@@ -93,16 +91,42 @@ returns-in-Err-clause-tells g c =
     rw c.token-in-tokens.ensures at (sym c.in-Some.ensures) in
     onward_fails _ then c.in-Err.failed _ _ n.held _ _ (g.S.Source.left n.source.now)
     (literal_added c.args.id c.tokens.clause c.in-Some.lit _ _ _ _ _ c.tokens.invariant.goes other said)
-    c.next_piece.ensures.keeps.grows (c.in-Err.ensures.err then)
+    c.next_piece.ensures.goes.keeps.grows (c.in-Err.ensures.err then)
 
-pub returns-in-Ok-End-clause-takes : goal.returns-in-Ok-End-clause-takes
-returns-in-Ok-End-clause-takes g c = takes-then _ _ _ _ _ _ c.tokens.invariant.takes c.next_piece.ensures.takes
+pub returns-in-Ok-End-clause-goes : goal.returns-in-Ok-End-clause-goes
+returns-in-Ok-End-clause-goes g c =
+    let i = c.tokens.invariant in
+    drawn-goes _ _ _ i.draws i.limit i.known_more c.next_piece.ensures.goes
 
-pub returns-in-Err-clause-takes : goal.returns-in-Err-clause-takes
-returns-in-Err-clause-takes g c = takes-then _ _ _ _ _ _ c.tokens.invariant.takes c.next_piece.ensures.takes
+pub returns-in-Err-clause-goes : goal.returns-in-Err-clause-goes
+returns-in-Err-clause-goes g c =
+    let i = c.tokens.invariant in
+    drawn-goes _ _ _ i.draws i.limit i.known_more c.next_piece.ensures.goes
 
-pub returns-then-is_byte-clause-takes : goal.returns-then-is_byte-clause-takes
-returns-then-is_byte-clause-takes g c = takes-then _ _ _ _ _ _ c.tokens.invariant.takes c.read_hints.ensures.takes
+pub returns-then-is_byte-clause-goes : goal.returns-then-is_byte-clause-goes
+returns-then-is_byte-clause-goes g c =
+    let i = c.tokens.invariant in
+    drawn-goes _ _ _ i.draws i.limit i.known_more c.read_hints.ensures.goes
 
-pub returns-in-None-clause-takes : goal.returns-in-None-clause-takes
-returns-in-None-clause-takes g c = takes-then _ _ _ _ _ _ c.tokens.invariant.takes c.misspelt.ensures.takes
+pub returns-in-None-clause-goes : goal.returns-in-None-clause-goes
+returns-in-None-clause-goes g c =
+    let i = c.tokens.invariant in
+    drawn-goes _ _ _ i.draws i.limit i.known_more c.misspelt.ensures.goes
+
+pub returns-then-is_err-clause-goes : goal.returns-then-is_err-clause-goes
+returns-then-is_err-clause-goes g c =
+    let i = c.tokens.invariant in
+    goes-drawn _ _ i.draws
+    (record { limit = i.limit; within = i.within; grows = i.known_more })
+
+pub returns-in-Ok-End-clause-calm : goal.returns-in-Ok-End-clause-calm
+returns-in-Ok-End-clause-calm g c = λ told. c.in-Ok-End.ensures.calm tt ∙ c.tokens.invariant.draws.calm
+
+pub returns-in-Err-clause-calm : goal.returns-in-Err-clause-calm
+returns-in-Err-clause-calm g c = λ told. c.in-Err.ensures.calm told ∙ c.tokens.invariant.draws.calm
+
+pub returns-then-is_byte-clause-calm : goal.returns-then-is_byte-clause-calm
+returns-then-is_byte-clause-calm g c = λ told. c.read_hints.ensures.calm told ∙ c.tokens.invariant.draws.calm
+
+pub returns-in-None-clause-calm : goal.returns-in-None-clause-calm
+returns-in-None-clause-calm g c = λ told. c.misspelt.ensures.calm told ∙ c.tokens.invariant.draws.calm

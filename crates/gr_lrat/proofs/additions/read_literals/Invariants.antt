@@ -1,5 +1,7 @@
 use Rattle.std.proofs.Common.{◌≡◌, ◌≤◌, ◌+◌, ◌∷◌, [], length}
-use Rattle.gr_text.specs.Places.{Takes, known, limit_of}
+use Rattle.gr_text.specs.Places.{known, limit_of}
+use Rattle.gr_text.specs.Stands.{stand}
+use Rattle.gr_text.proofs.Going.{Draws}
 use Rattle.gr_lrat.specs.Lines.{addition_from}
 use Rattle.gr_lrat.specs.Stages.{Onward}
 use Rattle.gr_lrat.proofs.additions.read_literals.Given as goal
@@ -16,9 +18,10 @@ invariant-tokens g l = record {
   within : known l.scanner.held ≤ limit_of l.scanner.held;
   limit : limit_of l.scanner.held ≡ limit_of l.fn.scanner.held;
   onward : l.fn.scanner.held.passed ≤ l.scanner.held.passed;
-  takes : Takes l.fn.scanner.held (g.S.Source.left l.fn.scanner.source.now)
-      l.scanner.held (g.S.Source.left l.scanner.source.now);
-  grows : g.S.Source.faults l.fn.scanner.source.now ≤ g.S.Source.faults l.scanner.source.now;
+  draws : Draws
+      (stand g.S.Source.left g.S.Source.taken g.S.Source.faults l.fn.scanner.held
+      l.fn.scanner.source.now)
+      (stand g.S.Source.left g.S.Source.taken g.S.Source.faults l.scanner.held l.scanner.source.now);
 }
 
 abbrev pub decreases-tokens : goal.decreases-tokens

@@ -3,7 +3,7 @@ use Rattle.gr_lrat.specs.Lines.{NoList, is_byte, ids_from}
 use Rattle.gr_lrat.specs.Statements.{list_of}
 use Rattle.gr_lrat.proofs.Telling.{onward_here, onward_ends, onward_fails, tells_then}
 use Rattle.gr_lrat.proofs.ListSteps.{listed, zero_listed, id_listed, negative_listed, other_listed}
-use Rattle.gr_text.proofs.Taken.{takes-then, takes-nothing}
+use Rattle.gr_text.proofs.Going.{drawn, drawn-goes, draws-none, goes-then}
 use Rattle.gr_lrat.proofs.lists.read_list.Goals as goal
 
 pub tokens-init : goal.tokens-init
@@ -16,8 +16,7 @@ tokens-init g c =
       known_more = omega arith;
       limit = refl;
       onward = omega arith;
-      takes = takes-nothing p.held p.held (g.S.Source.left p.source.now) refl;
-      grows = omega arith;
+      draws = draws-none _ _ refl;
     }
 
 pub returns-in-Ok-End-clause-tells : goal.returns-in-Ok-End-clause-tells
@@ -25,7 +24,7 @@ returns-in-Ok-End-clause-tells g c = λ made.
     let said = λ (ws : List (List ℕ)). listed made c.tokens.negative c.tokens.ids ws in
     let n = c.next_piece.new.scanner in
     onward_ends _ said (made NoList) c.in-Ok-End.end _ _ n.held _ _ (g.S.Source.left n.source.now)
-    (c.tokens.invariant.goes made) c.next_piece.ensures.keeps.grows
+    (c.tokens.invariant.goes made) c.next_piece.ensures.goes.keeps.grows
     (rw c.in-Ok-End.field-0-is at (c.in-Ok-End.ensures.ok said))
 
 pub returns-in-Err-clause-tells : goal.returns-in-Err-clause-tells
@@ -33,7 +32,7 @@ returns-in-Err-clause-tells g c = λ made.
     let said = λ (ws : List (List ℕ)). listed made c.tokens.negative c.tokens.ids ws in
     let n = c.next_piece.new.scanner in
     onward_fails _ said c.in-Err.failed _ _ n.held _ _ (g.S.Source.left n.source.now)
-    (c.tokens.invariant.goes made) c.next_piece.ensures.keeps.grows (c.in-Err.ensures.err said)
+    (c.tokens.invariant.goes made) c.next_piece.ensures.goes.keeps.grows (c.in-Err.ensures.err said)
 
 pub returns-then-is_byte-clause-tells : goal.returns-then-is_byte-clause-tells
 returns-then-is_byte-clause-tells g c = λ made.
@@ -45,12 +44,12 @@ returns-then-is_byte-clause-tells g c = λ made.
     (g.S.Source.left m.source.now)
     (zero_listed made c.tokens.negative c.tokens.ids _ _ _ _ _ _ _ (c.tokens.invariant.goes made)
     (rw c.in-Ok-Token.field-0-is at (c.in-Ok-Token.ensures.ok said)) zero_)
-    c.close_list.ensures.keeps.grows (c.close_list.ensures.tells made)
+    c.close_list.ensures.goes.keeps.grows (c.close_list.ensures.tells made)
 
 pub tokens-preserved-else-is_err : goal.tokens-preserved-else-is_err
 tokens-preserved-else-is_err g c =
     let i = c.tokens.invariant in
-    let k = c.next_piece.ensures.keeps in
+    let k = c.next_piece.ensures.goes.keeps in
     let gone = rw c.in-Ok-Token.field-0-is at c.in-Ok-Token.ensures.onward in
     let other : is_byte 48 c.next_piece.new.scanner.held.token ≡ false =
     rw c.token.ensures at (sym c.is_byte.ensures ∙ c.if-is_byte.false) in
@@ -64,14 +63,13 @@ tokens-preserved-else-is_err g c =
       known_more = omega (arith, i.known_more, k.grows);
       limit = k.limit ∙ i.limit;
       onward = omega (arith, i.onward, gone);
-      takes = takes-then _ _ _ _ _ _ i.takes c.next_piece.ensures.takes;
-      grows = omega (arith, i.grows, c.next_piece.ensures.grows);
+      draws = drawn _ _ _ i.draws c.next_piece.ensures.goes (c.in-Ok-Token.ensures.calm tt);
     }
 
 pub tokens-preserved : goal.tokens-preserved
 tokens-preserved g c =
     let i = c.tokens.invariant in
-    let k = c.next_piece.ensures.keeps in
+    let k = c.next_piece.ensures.goes.keeps in
     let gone = rw c.in-Ok-Token.field-0-is at c.in-Ok-Token.ensures.onward in
     let other : is_byte 48 c.next_piece.new.scanner.held.token ≡ false =
     rw c.token.ensures at (sym c.is_byte.ensures ∙ c.if-is_byte.false) in
@@ -84,8 +82,7 @@ tokens-preserved g c =
       known_more = omega (arith, i.known_more, k.grows);
       limit = k.limit ∙ i.limit;
       onward = omega (arith, i.onward, gone);
-      takes = takes-then _ _ _ _ _ _ i.takes c.next_piece.ensures.takes;
-      grows = omega (arith, i.grows, c.next_piece.ensures.grows);
+      draws = drawn _ _ _ i.draws c.next_piece.ensures.goes (c.in-Ok-Token.ensures.calm tt);
     }
 
 pub returns-in-Other-clause-tells : goal.returns-in-Other-clause-tells
@@ -99,21 +96,45 @@ returns-in-Other-clause-tells g c = λ made.
     (g.S.Source.left m.source.now)
     (other_listed made c.tokens.negative c.tokens.ids _ _ _ _ _ _ _ (c.tokens.invariant.goes made)
     (rw c.in-Ok-Token.field-0-is at (c.in-Ok-Token.ensures.ok said)) other odd.0 odd.1)
-    c.no_list.ensures.keeps.grows (c.no_list.ensures.tells made)
+    c.no_list.ensures.goes.keeps.grows (c.no_list.ensures.tells made)
 
-pub returns-in-Ok-End-clause-takes : goal.returns-in-Ok-End-clause-takes
-returns-in-Ok-End-clause-takes g c = takes-then _ _ _ _ _ _ c.tokens.invariant.takes c.next_piece.ensures.takes
+pub returns-in-Ok-End-clause-goes : goal.returns-in-Ok-End-clause-goes
+returns-in-Ok-End-clause-goes g c =
+    let i = c.tokens.invariant in
+    drawn-goes _ _ _ i.draws i.limit i.known_more c.next_piece.ensures.goes
 
-pub returns-in-Err-clause-takes : goal.returns-in-Err-clause-takes
-returns-in-Err-clause-takes g c = takes-then _ _ _ _ _ _ c.tokens.invariant.takes c.next_piece.ensures.takes
+pub returns-in-Err-clause-goes : goal.returns-in-Err-clause-goes
+returns-in-Err-clause-goes g c =
+    let i = c.tokens.invariant in
+    drawn-goes _ _ _ i.draws i.limit i.known_more c.next_piece.ensures.goes
 
-pub returns-then-is_err-clause-takes : goal.returns-then-is_err-clause-takes
-returns-then-is_err-clause-takes g c = takes-then _ _ _ _ _ _ c.tokens.invariant.takes c.next_piece.ensures.takes
+pub returns-then-is_err-clause-goes : goal.returns-then-is_err-clause-goes
+returns-then-is_err-clause-goes g c =
+    let i = c.tokens.invariant in
+    drawn-goes _ _ _ i.draws i.limit i.known_more c.next_piece.ensures.goes
 
-pub returns-then-is_byte-clause-takes : goal.returns-then-is_byte-clause-takes
-returns-then-is_byte-clause-takes g c = takes-then _ _ _ _ _ _
-    (takes-then _ _ _ _ _ _ c.tokens.invariant.takes c.next_piece.ensures.takes) c.close_list.ensures.takes
+pub returns-then-is_byte-clause-goes : goal.returns-then-is_byte-clause-goes
+returns-then-is_byte-clause-goes g c =
+    let i = c.tokens.invariant in
+    goes-then _ _ _ (drawn-goes _ _ _ i.draws i.limit i.known_more c.next_piece.ensures.goes)
+    c.close_list.ensures.goes
 
-pub returns-in-Other-clause-takes : goal.returns-in-Other-clause-takes
-returns-in-Other-clause-takes g c = takes-then _ _ _ _ _ _
-    (takes-then _ _ _ _ _ _ c.tokens.invariant.takes c.next_piece.ensures.takes) c.no_list.ensures.takes
+pub returns-in-Other-clause-goes : goal.returns-in-Other-clause-goes
+returns-in-Other-clause-goes g c =
+    let i = c.tokens.invariant in
+    goes-then _ _ _ (drawn-goes _ _ _ i.draws i.limit i.known_more c.next_piece.ensures.goes)
+    c.no_list.ensures.goes
+
+pub returns-in-Ok-End-clause-calm : goal.returns-in-Ok-End-clause-calm
+returns-in-Ok-End-clause-calm g c = λ told. c.in-Ok-End.ensures.calm tt ∙ c.tokens.invariant.draws.calm
+
+pub returns-in-Err-clause-calm : goal.returns-in-Err-clause-calm
+returns-in-Err-clause-calm g c = λ told. c.in-Err.ensures.calm told ∙ c.tokens.invariant.draws.calm
+
+pub returns-then-is_byte-clause-calm : goal.returns-then-is_byte-clause-calm
+returns-then-is_byte-clause-calm g c = λ told.
+    c.close_list.ensures.calm told ∙ c.in-Ok-Token.ensures.calm tt ∙ c.tokens.invariant.draws.calm
+
+pub returns-in-Other-clause-calm : goal.returns-in-Other-clause-calm
+returns-in-Other-clause-calm g c = λ told.
+    c.no_list.ensures.calm told ∙ c.in-Ok-Token.ensures.calm tt ∙ c.tokens.invariant.draws.calm

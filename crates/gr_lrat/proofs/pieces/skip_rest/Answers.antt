@@ -1,6 +1,6 @@
 use Rattle.std.proofs.Common.{◌∙◌, arith}
 use Rattle.gr_lrat.proofs.Telling.{onward_then, onward_ends, onward_fails, skip_comes, skip_fails}
-use Rattle.gr_text.proofs.Taken.{takes-then}
+use Rattle.gr_text.proofs.Going.{drawn, drawn-goes, draws-goes}
 use Rattle.gr_lrat.proofs.pieces.skip_rest.Goals as goal
 
 pub returns-in-Err-clause-tells : goal.returns-in-Err-clause-tells
@@ -16,7 +16,7 @@ pieces-init g c =
     let left = g.S.Source.left in
     let p = c.args.scanner.now in
     let q = c.skip_line.new.self in
-    let k = c.skip_line.ensures.keeps in
+    let k = c.skip_line.ensures.goes.keeps in
     record {
       same = c.skip_line.ensures.same;
       goes = λ x. skip_comes x p.held q.held (left p.source.now) (left q.source.now)
@@ -24,8 +24,7 @@ pieces-init g c =
       known_more = k.grows;
       limit = k.limit;
       onward = c.skip_line.ensures.onward;
-      takes = c.skip_line.ensures.takes;
-      grows = c.skip_line.ensures.grows;
+      draws = draws-goes _ _ c.skip_line.ensures.goes (c.in-Ok.ensures.calm tt);
     }
 
 pub pieces-preserved : goal.pieces-preserved
@@ -35,7 +34,7 @@ pieces-preserved g c =
     let q = c.pieces.scanner in
     let n = c.next_piece.new.scanner in
     let i = c.pieces.invariant in
-    let k = c.next_piece.ensures.keeps in
+    let k = c.next_piece.ensures.goes.keeps in
     let gone = rw c.in-Ok-Token.field-0-is at c.in-Ok-Token.ensures.onward in
     record {
       same = c.next_piece.ensures.same ∙ i.same;
@@ -45,8 +44,7 @@ pieces-preserved g c =
       known_more = omega (arith, i.known_more, k.grows);
       limit = k.limit ∙ i.limit;
       onward = omega (arith, i.onward, gone);
-      takes = takes-then _ _ _ _ _ _ i.takes c.next_piece.ensures.takes;
-      grows = omega (arith, i.grows, c.next_piece.ensures.grows);
+      draws = drawn _ _ _ i.draws c.next_piece.ensures.goes (c.in-Ok-Token.ensures.calm tt);
     }
 
 pub returns-in-Ok-End-clause-tells : goal.returns-in-Ok-End-clause-tells
@@ -57,18 +55,8 @@ returns-in-Ok-End-clause-tells g c = λ x.
     let n = c.next_piece.new.scanner in
     onward_ends (λ ws. x) (λ ws. x) x c.in-Ok-End.end p.held q.held n.held
     (left p.source.now) (left q.source.now) (left n.source.now)
-    (c.pieces.invariant.goes x) c.next_piece.ensures.keeps.grows
+    (c.pieces.invariant.goes x) c.next_piece.ensures.goes.keeps.grows
     (rw c.in-Ok-End.field-0-is at (c.in-Ok-End.ensures.ok (λ ws. x)))
-
-pub returns-in-Ok-End-clause-keeps : goal.returns-in-Ok-End-clause-keeps
-returns-in-Ok-End-clause-keeps g c =
-    let k = c.next_piece.ensures.keeps in
-    let i = c.pieces.invariant in
-    record {
-      limit = k.limit ∙ i.limit;
-      within = k.within;
-      grows = omega (arith, k.grows, i.known_more);
-    }
 
 pub returns-in-Err-next_piece-clause-tells : goal.returns-in-Err-next_piece-clause-tells
 returns-in-Err-next_piece-clause-tells g c = λ x.
@@ -78,23 +66,22 @@ returns-in-Err-next_piece-clause-tells g c = λ x.
     let n = c.next_piece.new.scanner in
     onward_fails (λ ws. x) (λ ws. x) c.in-Err-next_piece.failed p.held q.held n.held
     (left p.source.now) (left q.source.now) (left n.source.now)
-    (c.pieces.invariant.goes x) c.next_piece.ensures.keeps.grows
+    (c.pieces.invariant.goes x) c.next_piece.ensures.goes.keeps.grows
     (c.in-Err-next_piece.ensures.err (λ ws. x))
 
-pub returns-in-Err-next_piece-clause-keeps : goal.returns-in-Err-next_piece-clause-keeps
-returns-in-Err-next_piece-clause-keeps g c =
-    let k = c.next_piece.ensures.keeps in
+pub returns-in-Ok-End-clause-goes : goal.returns-in-Ok-End-clause-goes
+returns-in-Ok-End-clause-goes g c =
     let i = c.pieces.invariant in
-    record {
-      limit = k.limit ∙ i.limit;
-      within = k.within;
-      grows = omega (arith, k.grows, i.known_more);
-    }
+    drawn-goes _ _ _ i.draws i.limit i.known_more c.next_piece.ensures.goes
 
-pub returns-in-Ok-End-clause-takes : goal.returns-in-Ok-End-clause-takes
-returns-in-Ok-End-clause-takes g c =
-    takes-then _ _ _ _ _ _ c.pieces.invariant.takes c.next_piece.ensures.takes
+pub returns-in-Err-next_piece-clause-goes : goal.returns-in-Err-next_piece-clause-goes
+returns-in-Err-next_piece-clause-goes g c =
+    let i = c.pieces.invariant in
+    drawn-goes _ _ _ i.draws i.limit i.known_more c.next_piece.ensures.goes
 
-pub returns-in-Err-next_piece-clause-takes : goal.returns-in-Err-next_piece-clause-takes
-returns-in-Err-next_piece-clause-takes g c =
-    takes-then _ _ _ _ _ _ c.pieces.invariant.takes c.next_piece.ensures.takes
+pub returns-in-Ok-End-clause-calm : goal.returns-in-Ok-End-clause-calm
+returns-in-Ok-End-clause-calm g c = λ told. c.in-Ok-End.ensures.calm tt ∙ c.pieces.invariant.draws.calm
+
+pub returns-in-Err-next_piece-clause-calm : goal.returns-in-Err-next_piece-clause-calm
+returns-in-Err-next_piece-clause-calm g c = λ told.
+    c.in-Err-next_piece.ensures.calm told ∙ c.pieces.invariant.draws.calm

@@ -1,7 +1,8 @@
 use Rattle.std.proofs.Common.{◌∙◌, refl, arith}
 use Rattle.gr_lrat.specs.Lines.{Spelled}
 use Rattle.gr_lrat.proofs.Reading.{blanks_here, blank_comes, line_comes, bad_comes, rat_comes, none_comes}
-use Rattle.gr_text.proofs.Taken.{takes-then, takes-nothing}
+use Rattle.gr_text.proofs.Going.{drawn, draws-none}
+use Rattle.gr_lrat.proofs.GoingOn.{goes_here, goes_later, told_line}
 use Rattle.gr_lrat.proofs.readers.next_line.Goals as goal
 
 pub lines-init : goal.lines-init
@@ -13,8 +14,7 @@ lines-init g c =
       limit = refl;
       within = λ h. h;
       onward = omega arith;
-      takes = takes-nothing p.held p.held (g.S.Source.left p.source.now) refl;
-      grows = omega arith;
+      draws = draws-none _ _ refl;
     }
 
 pub lines-preserved : goal.lines-preserved
@@ -24,7 +24,7 @@ lines-preserved g c =
     let q = c.lines.scanner in
     let n = c.read_statement.new.scanner in
     let i = c.lines.invariant in
-    let k = c.read_statement.ensures.keeps in
+    let k = c.read_statement.ensures.goes.keeps in
     let passed = rw c.in-Nothing.is at c.in-Ok.ensures.passes in
     record {
       same = c.read_statement.ensures.same ∙ i.same;
@@ -34,8 +34,7 @@ lines-preserved g c =
       limit = k.limit ∙ i.limit;
       within = λ _. k.within;
       onward = omega (arith, i.onward, passed);
-      takes = takes-then _ _ _ _ _ _ i.takes c.read_statement.ensures.takes;
-      grows = omega (arith, i.grows, c.read_statement.ensures.grows);
+      draws = drawn _ _ _ i.draws c.read_statement.ensures.goes (c.in-Ok.ensures.calm tt);
     }
 
 pub returns-in-Err-clause-answers : goal.returns-in-Err-clause-answers
@@ -47,7 +46,7 @@ returns-in-Err-clause-answers g c =
     rw c.line_error.ensures (none_comes c.in-Err.failed c.args.ended.now c.lines.ended p.held q.held
     n.held
     (left p.source.now) (left q.source.now) (left n.source.now) c.lines.ended
-    c.lines.invariant.blanks c.lines-test.true c.read_statement.ensures.keeps.grows
+    c.lines.invariant.blanks c.lines-test.true c.read_statement.ensures.goes.keeps.grows
     c.in-Err.ensures.tells)
 
 pub returns-in-Spelled-clause-answers : goal.returns-in-Spelled-clause-answers
@@ -59,7 +58,7 @@ returns-in-Spelled-clause-answers g c =
     rw c.in-Spelled.is (line_comes (Spelled c.in-Spelled.line) c.in-Ok.statement.end
     c.args.ended.now p.held q.held n.held
     (left p.source.now) (left q.source.now) (left n.source.now) c.lines.ended
-    c.lines.invariant.blanks c.lines-test.true c.read_statement.ensures.keeps.grows
+    c.lines.invariant.blanks c.lines-test.true c.read_statement.ensures.goes.keeps.grows
     (rw c.in-Spelled.is at c.in-Ok.ensures.tells))
 
 pub returns-in-Misspelt-clause-answers : goal.returns-in-Misspelt-clause-answers
@@ -70,7 +69,7 @@ returns-in-Misspelt-clause-answers g c =
     let n = c.read_statement.new.scanner in
     bad_comes c.in-Ok.statement.end c.args.ended.now p.held q.held n.held
     (left p.source.now) (left q.source.now) (left n.source.now) c.lines.ended
-    c.lines.invariant.blanks c.lines-test.true c.read_statement.ensures.keeps.grows
+    c.lines.invariant.blanks c.lines-test.true c.read_statement.ensures.goes.keeps.grows
     (rw c.in-Misspelt.is at c.in-Ok.ensures.tells)
 
 pub returns-in-HasNegativeHint-clause-answers : goal.returns-in-HasNegativeHint-clause-answers
@@ -81,26 +80,52 @@ returns-in-HasNegativeHint-clause-answers g c =
     let n = c.read_statement.new.scanner in
     rat_comes c.in-Ok.statement.end c.args.ended.now p.held q.held n.held
     (left p.source.now) (left q.source.now) (left n.source.now) c.lines.ended
-    c.lines.invariant.blanks c.lines-test.true c.read_statement.ensures.keeps.grows
+    c.lines.invariant.blanks c.lines-test.true c.read_statement.ensures.goes.keeps.grows
     (rw c.in-HasNegativeHint.is at c.in-Ok.ensures.tells)
-
-pub returns-in-Err-clause-takes : goal.returns-in-Err-clause-takes
-returns-in-Err-clause-takes g c =
-    takes-then _ _ _ _ _ _ c.lines.invariant.takes c.read_statement.ensures.takes
-
-pub returns-in-Spelled-clause-takes : goal.returns-in-Spelled-clause-takes
-returns-in-Spelled-clause-takes g c =
-    takes-then _ _ _ _ _ _ c.lines.invariant.takes c.read_statement.ensures.takes
-
-pub returns-in-Misspelt-clause-takes : goal.returns-in-Misspelt-clause-takes
-returns-in-Misspelt-clause-takes g c =
-    takes-then _ _ _ _ _ _ c.lines.invariant.takes c.read_statement.ensures.takes
-
-pub returns-in-HasNegativeHint-clause-takes : goal.returns-in-HasNegativeHint-clause-takes
-returns-in-HasNegativeHint-clause-takes g c =
-    takes-then _ _ _ _ _ _ c.lines.invariant.takes c.read_statement.ensures.takes
 
 pub returns-in-Spelled-clause-passes : goal.returns-in-Spelled-clause-passes
 returns-in-Spelled-clause-passes g c =
     let passed = rw c.in-Spelled.is at c.in-Ok.ensures.passes in
-    omega (arith, c.lines.invariant.onward, c.lines.invariant.limit, c.read_statement.ensures.keeps.limit, passed)
+    omega (arith, c.lines.invariant.onward, c.lines.invariant.limit, c.read_statement.ensures.goes.keeps.limit, passed)
+
+pub returns-in-Err-clause-goes : goal.returns-in-Err-clause-goes
+returns-in-Err-clause-goes g c =
+    let i = c.lines.invariant in
+    goes_later _ _ _ i.draws i.limit i.blanks.grows c.read_statement.ensures.goes
+
+pub returns-in-Spelled-clause-goes : goal.returns-in-Spelled-clause-goes
+returns-in-Spelled-clause-goes g c =
+    let i = c.lines.invariant in
+    goes_later _ _ _ i.draws i.limit i.blanks.grows c.read_statement.ensures.goes
+
+pub returns-in-Misspelt-clause-goes : goal.returns-in-Misspelt-clause-goes
+returns-in-Misspelt-clause-goes g c =
+    let i = c.lines.invariant in
+    goes_later _ _ _ i.draws i.limit i.blanks.grows c.read_statement.ensures.goes
+
+pub returns-in-HasNegativeHint-clause-goes : goal.returns-in-HasNegativeHint-clause-goes
+returns-in-HasNegativeHint-clause-goes g c =
+    let i = c.lines.invariant in
+    goes_later _ _ _ i.draws i.limit i.blanks.grows c.read_statement.ensures.goes
+
+pub returns-in-Spelled-clause-calm : goal.returns-in-Spelled-clause-calm
+returns-in-Spelled-clause-calm g c = λ told. c.in-Ok.ensures.calm tt ∙ c.lines.invariant.draws.calm
+
+pub returns-in-Misspelt-clause-calm : goal.returns-in-Misspelt-clause-calm
+returns-in-Misspelt-clause-calm g c = λ told. c.in-Ok.ensures.calm tt ∙ c.lines.invariant.draws.calm
+
+pub returns-in-HasNegativeHint-clause-calm : goal.returns-in-HasNegativeHint-clause-calm
+returns-in-HasNegativeHint-clause-calm g c = λ told. c.in-Ok.ensures.calm tt ∙ c.lines.invariant.draws.calm
+
+pub returns-in-Err-clause-calm : goal.returns-in-Err-clause-calm
+returns-in-Err-clause-calm g c = λ told.
+    c.in-Err.ensures.calm (told_line c.in-Err.failed _ c.line_error.ensures told)
+    ∙ c.lines.invariant.draws.calm
+
+pub returns-clause-goes : goal.returns-clause-goes
+returns-clause-goes g c =
+    let i = c.lines.invariant in
+    goes_here _ _ i.draws (record { limit = i.limit; within = i.within; grows = i.blanks.grows })
+
+pub returns-clause-calm : goal.returns-clause-calm
+returns-clause-calm g c = λ told. c.lines.invariant.draws.calm

@@ -1,5 +1,7 @@
 use Rattle.std.proofs.Common.{◌≡◌, ◌≤◌, ◌+◌, length, cond}
-use Rattle.gr_text.specs.Places.{Takes, known, limit_of}
+use Rattle.gr_text.specs.Places.{known, limit_of}
+use Rattle.gr_text.specs.Stands.{stand}
+use Rattle.gr_text.proofs.Going.{Draws}
 use Rattle.gr_lrat.proofs.Reading.{PassesBlanks}
 use Rattle.gr_lrat.proofs.readers.next_line.Given as goal
 
@@ -13,9 +15,10 @@ invariant-lines g l = record {
   within : known l.fn.scanner.held ≤ limit_of l.fn.scanner.held →
       known l.scanner.held ≤ limit_of l.scanner.held;
   onward : l.fn.scanner.held.passed ≤ l.scanner.held.passed;
-  takes : Takes l.fn.scanner.held (g.S.Source.left l.fn.scanner.source.now)
-      l.scanner.held (g.S.Source.left l.scanner.source.now);
-  grows : g.S.Source.faults l.fn.scanner.source.now ≤ g.S.Source.faults l.scanner.source.now;
+  draws : Draws
+      (stand g.S.Source.left g.S.Source.taken g.S.Source.faults l.fn.scanner.held
+      l.fn.scanner.source.now)
+      (stand g.S.Source.left g.S.Source.taken g.S.Source.faults l.scanner.held l.scanner.source.now);
 }
 
 abbrev pub decreases-lines : goal.decreases-lines

@@ -4,7 +4,7 @@ use Rattle.gr_lrat.specs.Statements.{spelling_of}
 use Rattle.gr_lrat.proofs.Telling.{onward_as, tells_then}
 use Rattle.gr_lrat.proofs.Passing.{bytes_then}
 use Rattle.gr_lrat.proofs.Stepping.{comments, states}
-use Rattle.gr_text.proofs.Taken.{takes-then}
+use Rattle.gr_text.proofs.Going.{goes-then}
 use Rattle.gr_lrat.proofs.statements.read_statement.Goals as goal
 
 pub returns-in-Ok-End-clause-tells : goal.returns-in-Ok-End-clause-tells
@@ -28,7 +28,7 @@ returns-then-begins_comment-clause-tells g c =
     (onward_as whole behind then p.held q.held (left p.source.now) (left q.source.now)
     (rw c.in-Ok-Token.field-0-is at (c.in-Ok-Token.ensures.ok whole)) (λ ws. comments
     q.held.token ws test))
-    c.pass_comment.ensures.keeps.grows c.pass_comment.ensures.tells
+    c.pass_comment.ensures.goes.keeps.grows c.pass_comment.ensures.tells
 
 pub returns-clause-tells : goal.returns-clause-tells
 returns-clause-tells g c =
@@ -47,11 +47,7 @@ returns-clause-tells g c =
     (onward_as whole behind then p.held q.held (left p.source.now) (left q.source.now)
     (rw c.in-Ok-Token.field-0-is at (c.in-Ok-Token.ensures.ok whole)) (λ ws. states
     q.held.token ws test))
-    c.read_tokens.ensures.keeps.grows c.read_tokens.ensures.tells
-
-pub returns-then-begins_comment-clause-takes : goal.returns-then-begins_comment-clause-takes
-returns-then-begins_comment-clause-takes g c =
-    takes-then _ _ _ _ _ _ c.next_piece.ensures.takes c.pass_comment.ensures.takes
+    c.read_tokens.ensures.goes.keeps.grows c.read_tokens.ensures.tells
 
 pub returns-then-begins_comment-clause-passes : goal.returns-then-begins_comment-clause-passes
 returns-then-begins_comment-clause-passes g c =
@@ -59,12 +55,20 @@ returns-then-begins_comment-clause-passes g c =
     c.pass_comment.new.scanner.held (rw c.in-Ok-Token.field-0-is at c.in-Ok-Token.ensures.onward)
     c.pass_comment.ensures.onward
 
-pub returns-clause-takes : goal.returns-clause-takes
-returns-clause-takes g c =
-    takes-then _ _ _ _ _ _ c.next_piece.ensures.takes c.read_tokens.ensures.takes
-
 pub returns-clause-passes : goal.returns-clause-passes
 returns-clause-passes g c =
     bytes_then c.read_tokens.result c.args.scanner.now.held c.next_piece.new.scanner.held
     c.read_tokens.new.scanner.held (rw c.in-Ok-Token.field-0-is at c.in-Ok-Token.ensures.onward)
     c.read_tokens.ensures.onward
+
+pub returns-then-begins_comment-clause-goes : goal.returns-then-begins_comment-clause-goes
+returns-then-begins_comment-clause-goes g c = goes-then _ _ _ c.next_piece.ensures.goes c.pass_comment.ensures.goes
+
+pub returns-then-begins_comment-clause-calm : goal.returns-then-begins_comment-clause-calm
+returns-then-begins_comment-clause-calm g c = λ told. c.pass_comment.ensures.calm told ∙ c.in-Ok-Token.ensures.calm tt
+
+pub returns-clause-goes : goal.returns-clause-goes
+returns-clause-goes g c = goes-then _ _ _ c.next_piece.ensures.goes c.read_tokens.ensures.goes
+
+pub returns-clause-calm : goal.returns-clause-calm
+returns-clause-calm g c = λ told. c.read_tokens.ensures.calm told ∙ c.in-Ok-Token.ensures.calm tt

@@ -6,7 +6,7 @@ use Rattle.gr_lrat.specs.Statements.{spelling_of}
 use Rattle.gr_lrat.proofs.Counted.{numbered, counted_id}
 use Rattle.gr_lrat.proofs.Telling.{onward_as, tells_then}
 use Rattle.gr_lrat.proofs.Stepping.{deletes, adds}
-use Rattle.gr_text.proofs.Taken.{takes-then}
+use Rattle.gr_text.proofs.Going.{goes-then}
 use Rattle.gr_lrat.proofs.statements.read_tokens.Goals as goal
 
 pub returns-in-Ok-End-clause-tells : goal.returns-in-Ok-End-clause-tells
@@ -27,7 +27,7 @@ returns-then-is_byte-clause-tells g c =
     ws) else Misspelt in
     let letter : is_byte 100 q.held.token ≡ true = rw c.token-2.ensures at (sym c.is_byte.ensures
     ∙ c.if-is_byte.true) in
-    let first = rw c.token.ensures at c.count-first.ensures in
+    let first = rw c.token.ensures at c.count-first.ensures.count in
     let counts : c.is_some.result ≡ is_count word = c.is_some.ensures
     ∙ numbered word c.count-first.result first in
     tells_then c.read_deletion.result (λ read. spelling_of read.spelt) (λ read. read.end) whole later
@@ -36,7 +36,7 @@ returns-then-is_byte-clause-tells g c =
     (onward_as whole behind later p.held q.held (left p.source.now) (left q.source.now)
     (rw c.in-Ok-Token.field-0-is at (c.in-Ok-Token.ensures.ok whole)) (λ ws. deletes word
     q.held.token ws c.is_some.result letter counts))
-    c.read_deletion.ensures.keeps.grows c.read_deletion.ensures.tells
+    c.read_deletion.ensures.goes.keeps.grows c.read_deletion.ensures.tells
 
 pub returns-else-is_byte-clause-tells : goal.returns-else-is_byte-clause-tells
 returns-else-is_byte-clause-tells g c =
@@ -51,7 +51,7 @@ returns-else-is_byte-clause-tells g c =
     c.id_of_count.result Misspelt in
     let letter : is_byte 100 q.held.token ≡ false = rw c.token-2.ensures at (sym c.is_byte.ensures ∙
     c.if-is_byte.false) in
-    let first = rw c.token.ensures at c.count-first.ensures in
+    let first = rw c.token.ensures at c.count-first.ensures.count in
     let id_is : c.id_of_count.result ≡ id_of word = rw first at c.id_of_count.ensures
     ∙ counted_id word in
     tells_then c.read_addition.result (λ read. spelling_of read.spelt) (λ read. read.end) whole later
@@ -60,12 +60,16 @@ returns-else-is_byte-clause-tells g c =
     (onward_as whole behind later p.held q.held (left p.source.now) (left q.source.now)
     (rw c.in-Ok-Token.field-0-is at (c.in-Ok-Token.ensures.ok whole)) (λ ws. adds word
     q.held.token ws c.id_of_count.result letter id_is))
-    c.read_addition.ensures.keeps.grows c.read_addition.ensures.tells
+    c.read_addition.ensures.goes.keeps.grows c.read_addition.ensures.tells
 
-pub returns-then-is_byte-clause-takes : goal.returns-then-is_byte-clause-takes
-returns-then-is_byte-clause-takes g c =
-    takes-then _ _ _ _ _ _ c.next_piece.ensures.takes c.read_deletion.ensures.takes
+pub returns-then-is_byte-clause-goes : goal.returns-then-is_byte-clause-goes
+returns-then-is_byte-clause-goes g c = goes-then _ _ _ c.next_piece.ensures.goes c.read_deletion.ensures.goes
 
-pub returns-else-is_byte-clause-takes : goal.returns-else-is_byte-clause-takes
-returns-else-is_byte-clause-takes g c =
-    takes-then _ _ _ _ _ _ c.next_piece.ensures.takes c.read_addition.ensures.takes
+pub returns-then-is_byte-clause-calm : goal.returns-then-is_byte-clause-calm
+returns-then-is_byte-clause-calm g c = λ told. c.read_deletion.ensures.calm told ∙ c.in-Ok-Token.ensures.calm tt
+
+pub returns-else-is_byte-clause-goes : goal.returns-else-is_byte-clause-goes
+returns-else-is_byte-clause-goes g c = goes-then _ _ _ c.next_piece.ensures.goes c.read_addition.ensures.goes
+
+pub returns-else-is_byte-clause-calm : goal.returns-else-is_byte-clause-calm
+returns-else-is_byte-clause-calm g c = λ told. c.read_addition.ensures.calm told ∙ c.in-Ok-Token.ensures.calm tt

@@ -1,5 +1,4 @@
-use Rattle.std.proofs.Common.{◌≡◌, ◌≤◌, ◌^◌}
-use Rattle.gr_text.specs.Places.{known, limit_of}
+use Rattle.std.proofs.Common.{◌≡◌}
 use Rattle.gr_lrat.specs.Answers.{to_pass}
 use Rattle.gr_top.proofs.JudgedLogs.{Follows}
 use Rattle.gr_top.proofs.checks.check_lines.Given as goal
@@ -10,9 +9,7 @@ invariant-lines g l = record {
   same : l.scanner.source.ghost_name ≡ l.fn.scanner.source.ghost_name;
   follows : Follows l.fn.formula (g.B.Source.left l.fn.scanner.source.now) l.checker l.last
       l.scanner.held (g.B.Source.left l.scanner.source.now);
-  limit : limit_of l.scanner.held ≡ 2 ^ 40;
-  within : known l.scanner.held ≤ 2 ^ 40;
-  grows : g.B.Source.faults l.fn.scanner.source.now ≤ g.B.Source.faults l.scanner.source.now;
+  calm : g.B.Source.faults l.scanner.source.now ≡ g.B.Source.faults l.fn.scanner.source.now;
 }
 
 -- each line has bytes

@@ -11,7 +11,8 @@ returns-in-Ok-clause-ok g c =
     rw sink
     (flushed-ok c.flush.result (refused_line_text c.args.line c.args.cause) (g.K.Sink.written c.args.out.now)
     (g.K.Sink.written c.print_refused_line.new.printer.sink.now) (g.K.Sink.written c.flush.new.self.sink.now)
-    c.new-printer.result.pending c.print_refused_line.new.printer.pending c.new-printer.ensures.empty printed c.flush.ensures.ok)
+    c.new-printer.result.pending c.print_refused_line.new.printer.pending c.new-printer.ensures.empty printed
+    c.flush.ensures.ok)
 
 pub returns-in-Ok-clause-err : goal.returns-in-Ok-clause-err
 returns-in-Ok-clause-err g c =
@@ -21,4 +22,5 @@ returns-in-Ok-clause-err g c =
     rw sink
     (flushed-err c.flush.result (refused_line_text c.args.line c.args.cause) (g.K.Sink.written c.args.out.now)
     (g.K.Sink.written c.print_refused_line.new.printer.sink.now) (g.K.Sink.written c.flush.new.self.sink.now)
-    c.new-printer.result.pending c.print_refused_line.new.printer.pending c.new-printer.ensures.empty printed c.flush.ensures.err)
+    c.new-printer.result.pending c.print_refused_line.new.printer.pending c.new-printer.ensures.empty printed
+    c.flush.ensures.err)

@@ -1,4 +1,5 @@
-use Rattle.std.proofs.Common.{◌≡◌, ◌∙◌, refl, sym}
+use Rattle.std.proofs.Common.{◌≡◌, ◌∙◌, refl, subst, sym}
+use Rattle.gr_top.specs.Statuses.{IsWellRead}
 use Rattle.gr_top.proofs.Called.{answer-solves, fault-solves, read-fault-solves, no-memory-solves}
 use Rattle.gr_top.proofs.Answered.{answer-is-no-read-fault, fault-is-no-read-fault}
 use Rattle.gr_top.proofs.runs.solve.Goals as goal
@@ -34,3 +35,16 @@ returns-in-Ok-clause-out g c is = absurd (answer-is-no-read-fault c.answer.resul
 pub returns-in-Err-Grammar-clause-out : goal.returns-in-Err-Grammar-clause-out
 returns-in-Err-Grammar-clause-out g c is =
     absurd (fault-is-no-read-fault c.write_fault.result c.in-Err-Grammar.fault (sym c.ended.ensures.status ∙ is))
+
+pub returns-in-Ok-clause-calm : goal.returns-in-Ok-clause-calm
+returns-in-Ok-clause-calm g c well = c.in-Ok.ensures.calm tt
+
+pub returns-in-Err-Grammar-clause-calm : goal.returns-in-Err-Grammar-clause-calm
+returns-in-Err-Grammar-clause-calm g c well = c.in-Err-Grammar.ensures.calm (rw c.in-Err-Grammar.field-0-is tt)
+
+pub returns-in-Err-ReadFault-clause-calm : goal.returns-in-Err-ReadFault-clause-calm
+returns-in-Err-ReadFault-clause-calm g c well = absurd (subst IsWellRead c.bare.ensures.status well)
+
+pub returns-in-Err-OutOfMemory-clause-calm : goal.returns-in-Err-OutOfMemory-clause-calm
+returns-in-Err-OutOfMemory-clause-calm g c well =
+    absurd (subst IsWellRead c.bare-in-Err-OutOfMemory.ensures.status well)

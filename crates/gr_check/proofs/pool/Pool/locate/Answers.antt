@@ -51,7 +51,11 @@ loop-k-init c = record {
 
 pub first_at-requires : goal.first_at-requires
 first_at-requires c =
-    rw (get_or_read c.loop-i.places.items c.loop-k.k _ (omega (arith, c.loop-i.invariant.room)) c.index.ensures None, c.deref.ensures.value)
+    rw (
+      get_or_read c.loop-i.places.items c.loop-k.k _ (omega
+          (arith, c.loop-i.invariant.room)) c.index.ensures None,
+      c.deref.ensures.value,
+    )
     (found_within (length c.self.inside.lits.items) (get_or c.loop-i.places.items c.loop-k.k None)
     (λ run is. c.loop-i.invariant.within c.loop-k.k (omega arith) run is))
 

@@ -1,7 +1,9 @@
+use Rattle.std.proofs.Common.{refl}
 use Rattle.gr_text.specs.Places.{between}
 use Rattle.gr_text.specs.Scans.{Spans}
 use Rattle.gr_text.proofs.Leads.{line-scanned, word-scanned, end-scanned, spans-after, fails-after}
-use Rattle.gr_text.proofs.Taken.{takes-then, takes-token}
+use Rattle.gr_text.proofs.Taken.{same-line}
+use Rattle.gr_text.proofs.Going.{goes-at, goes-then}
 use Rattle.gr_text.proofs.scanners.Scanner+S.next.Goals as goal
 
 pub returns-in-Ok-false-clause-ok : goal.returns-in-Ok-false-clause-ok
@@ -29,7 +31,7 @@ returns-in-Err-word-clause-err g c =
     let q = c.reach.new.self in
     fails-after (between p) (between q.held) c.in-Err-word.failed p q.held c.word.new.self.held
     (left c.args.self.now.source.now) (left q.source.now) (left c.word.new.self.source.now)
-    c.in-Ok-true.ensures.ok.leads c.word.ensures.keeps.grows c.in-Err-word.ensures.err
+    c.in-Ok-true.ensures.ok.leads c.word.ensures.goes.keeps.grows c.in-Err-word.ensures.err
 
 pub returns-clause-ok : goal.returns-clause-ok
 returns-clause-ok g c =
@@ -44,14 +46,17 @@ returns-clause-ok g c =
     rw (c.last-line.ensures, c.end_token-first.ensures.place, c.end_token-first.ensures.first)
     (word-scanned (between p) p o.held (left c.args.self.now.source.now) (left o.source.now) spans)
 
-pub returns-in-Err-word-clause-takes : goal.returns-in-Err-word-clause-takes
-returns-in-Err-word-clause-takes g c =
-    takes-then _ _ _ _ _ _ c.in-Ok-true.ensures.takes c.in-Err-word.ensures.takes
+pub returns-then-is_at_line_end-clause-goes : goal.returns-then-is_at_line_end-clause-goes
+returns-then-is_at_line_end-clause-goes g c =
+    let q = c.reach.new.self.held in
+    rw c.end_line-line.ensures.place
+    (goes-at _ _ _ c.reach.ensures.goes
+    (same-line q (c.in-Ok-true.ensures.ok.some c.in-Ok-true.field-0-test)) refl refl)
 
-pub returns-clause-takes : goal.returns-clause-takes
-returns-clause-takes g c =
-    let o = c.word.new.self in
-    let more = g.S.Source.left o.source.now in
-    rw c.end_token-first.ensures.place (takes-then _ o.held _ _ more more
-    (takes-then _ _ _ _ _ _ c.in-Ok-true.ensures.takes c.in-Ok.ensures.takes)
-    (takes-token o.held more))
+pub returns-in-Err-word-clause-goes : goal.returns-in-Err-word-clause-goes
+returns-in-Err-word-clause-goes g c = goes-then _ _ _ c.reach.ensures.goes c.word.ensures.goes
+
+pub returns-clause-goes : goal.returns-clause-goes
+returns-clause-goes g c =
+    rw c.end_token-first.ensures.place
+    (goes-at _ _ _ (goes-then _ _ _ c.reach.ensures.goes c.word.ensures.goes) refl refl refl)

@@ -1,5 +1,7 @@
 use Rattle.std.proofs.Common.{◌≡◌, ◌≤◌, ◌+◌, [], if◌then◌else◌}
-use Rattle.gr_text.specs.Places.{Takes, BeginsPastSpaces, Leads, IsPastEnd, between, no_token}
+use Rattle.gr_text.specs.Places.{BeginsPastSpaces, Leads, IsPastEnd, between, no_token}
+use Rattle.gr_text.specs.Stands.{stand}
+use Rattle.gr_text.proofs.Going.{Draws}
 use Rattle.gr_text.proofs.scanners.Scanner+S.reach.Given as goal
 
 -- nothing was made known so far, and no space comes next
@@ -11,14 +13,13 @@ invariant-loop-self g l = record {
       (between l.self.held) l.self.held (g.S.Source.left l.self.source.now);
   token : l.self.held.token ≡ [];
   past : BeginsPastSpaces l.self.held.ahead;
-  takes :
-      Takes l.fn.self.held (g.S.Source.left l.fn.self.source.now) l.self.held
-      (g.S.Source.left l.self.source.now);
   onward : l.fn.self.held.passed ≤ l.self.held.passed;
   again :
       IsPastEnd l.fn.self.held →
       (l.self.held ≡ no_token l.fn.self.held) × (l.self.source.now ≡ l.fn.self.source.now);
-  grows : g.S.Source.faults l.fn.self.source.now ≤ g.S.Source.faults l.self.source.now;
+  draws :
+      Draws (stand g.S.Source.left g.S.Source.taken g.S.Source.faults l.fn.self.held l.fn.self.source.now)
+      (stand g.S.Source.left g.S.Source.taken g.S.Source.faults l.self.held l.self.source.now);
 }
 
 abbrev pub decreases-loop-self : goal.decreases-loop-self

@@ -1,6 +1,7 @@
 use Rattle.std.proofs.Common.{◌≡◌, ◌≤◌, ◌+◌, if◌then◌else◌}
-use Rattle.gr_text.specs.Places.{Takes}
 use Rattle.gr_text.proofs.Skips.{Passes, AtLineEnd}
+use Rattle.gr_text.specs.Stands.{stand}
+use Rattle.gr_text.proofs.Going.{Draws}
 use Rattle.gr_text.proofs.scanners.Scanner+S.skip_line.Given as goal
 
 -- what was passed lies before the line's end
@@ -11,11 +12,10 @@ invariant-loop-self g l = record {
       Passes l.fn.self.held (g.S.Source.left l.fn.self.source.now) l.self.held
       (g.S.Source.left l.self.source.now);
   at_end : AtLineEnd l.self.held.ahead;
-  takes :
-      Takes l.fn.self.held (g.S.Source.left l.fn.self.source.now) l.self.held
-      (g.S.Source.left l.self.source.now);
   onward : l.fn.self.held.passed ≤ l.self.held.passed;
-  grows : g.S.Source.faults l.fn.self.source.now ≤ g.S.Source.faults l.self.source.now;
+  draws :
+      Draws (stand g.S.Source.left g.S.Source.taken g.S.Source.faults l.fn.self.held l.fn.self.source.now)
+      (stand g.S.Source.left g.S.Source.taken g.S.Source.faults l.self.held l.self.source.now);
 }
 
 abbrev pub decreases-loop-self : goal.decreases-loop-self

@@ -1,5 +1,7 @@
 use Rattle.std.proofs.Common.{◌≡◌, ◌≤◌, ◌<◌, ◌+◌, length, if◌then◌else◌}
-use Rattle.gr_text.specs.Places.{Takes, BeginsBlank, Leads, between, inside}
+use Rattle.gr_text.specs.Places.{BeginsBlank, Leads, between, inside}
+use Rattle.gr_text.specs.Stands.{stand}
+use Rattle.gr_text.proofs.Going.{Draws}
 use Rattle.gr_text.proofs.scanners.Scanner+S.word.Given as goal
 
 -- the token has begun, and the bytes so far are its bytes
@@ -12,11 +14,10 @@ invariant-loop-self g l = record {
   some : 0 < length l.self.held.token;
   last : l.self.held.last ≡ l.self.held.line;
   blank : BeginsBlank l.self.held.ahead;
-  takes :
-      Takes l.fn.self.held (g.S.Source.left l.fn.self.source.now) l.self.held
-      (g.S.Source.left l.self.source.now);
   onward : l.fn.self.held.passed < l.self.held.passed;
-  grows : g.S.Source.faults l.fn.self.source.now ≤ g.S.Source.faults l.self.source.now;
+  draws :
+      Draws (stand g.S.Source.left g.S.Source.taken g.S.Source.faults l.fn.self.held l.fn.self.source.now)
+      (stand g.S.Source.left g.S.Source.taken g.S.Source.faults l.self.held l.self.source.now);
 }
 
 abbrev pub decreases-loop-self : goal.decreases-loop-self

@@ -1,9 +1,9 @@
--- values up to a cap
-use Rattle.std.proofs.Common.{◌≡◌, ℕ, zero, suc, ◌+◌, ◌*◌, ◌-◌, ◌^◌, ◌≤◌, ◌<◌, ◌⊎◌, inl, inr, List, [], ◌∷◌, refl, arith, length, min, true, false, nat_le, ◌==◌, add-one, pow-suc}
+-- the values of digits, up to a cap
+use Rattle.std.proofs.Common.{◌≡◌, ℕ, zero, suc, ◌+◌, ◌*◌, ◌-◌, ◌^◌, ◌≤◌, ◌<◌, ◌⊎◌, inl, inr, List, [], ◌∷◌, refl, arith, length, min, true, false, nat_le, ◌==◌, add-one, pow-suc, Option, Some, None, MatchOption}
 use Rattle.std.proofs.Math.Nat.{pow-le-pow_right}
 use Rattle.std.proofs.lemmas.Bool.{le-leb}
 use Rattle.std.specs.List.{list_all}
-use Rattle.gr_dimacs.specs.Numbers.{value, value_after, is_count, is_digit}
+use Rattle.gr_text.specs.Numerals.{capped_count, value, value_after, is_count, is_digit}
 
 pub value_after-le : (ds : List ℕ) (n : ℕ) → n ≤ value_after n ds
 value_after-le [] n = omega arith
@@ -30,11 +30,11 @@ digit-is b low high =
     let c : nat_le b 57 ≡ true = le-leb b 57 high in
     rw (a, c) refl
 
--- a number of few digits is below the cap
-pub below-cap : (size digits : ℕ) → size < 10 ^ digits → digits ≤ 12 → size < 1_000_000_000_000
-below-cap size digits below few =
-    let most : 10 ^ digits ≤ 10 ^ 12 = pow-le-pow_right (omega arith) few in
-    omega (arith, most)
+-- a number of few digits is below a power of ten
+pub below-power : (size digits most : ℕ) → size < 10 ^ digits → digits ≤ most → size < 10 ^ most
+below-power size digits most below few =
+    let powers : 10 ^ digits ≤ 10 ^ most = pow-le-pow_right (omega arith) few in
+    omega (arith, powers)
 
 -- with one more digit the number has one more digit
 pub one-more-digit : (size digits digit : ℕ) → size < 10 ^ digits → digit ≤ 9 →
@@ -45,7 +45,14 @@ one-more-digit size digits digit below small =
 
 -- digits of which the value is below the cap
 pub counted-whole : (ds : List ℕ) (size : ℕ) → (length ds == 0) ≡ false →
-    list_all is_digit ds ≡ true → value ds ≡ size → size < 1_000_000_000_000 →
-    (is_count ds ≡ true) × (size ≡ min (value ds) 1_000_000_000_000)
+    list_all is_digit ds ≡ true → value ds ≡ size → size < 2 ^ 63 →
+    (is_count ds ≡ true) × (size ≡ min (value ds) (2 ^ 63))
 counted-whole [] size some all same small = absurd (cc)
 counted-whole (d ∷ ds) size some all same small = (all, omega arith)
+
+-- what digits are says what their capped value is
+pub capped_is : (w : List ℕ) (o : Option ℕ)
+    → MatchOption o (is_count w ≡ false) (λ n. (is_count w ≡ true) × (n ≡ min (value w) (2 ^ 63)))
+    → o ≡ capped_count w
+capped_is w None other = rw other refl
+capped_is w (Some n) is = rw (is.0, is.1) refl

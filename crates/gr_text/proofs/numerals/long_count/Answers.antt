@@ -1,8 +1,8 @@
-use Rattle.std.proofs.Common.{◌≡◌, ◌∙◌, ◌+◌, ◌*◌, ◌-◌, ◌^◌, drop, get_or, true, arith}
+use Rattle.std.proofs.Common.{◌≡◌, ◌∙◌, ◌+◌, ◌*◌, ◌-◌, ◌^◌, drop, get_or, arith, true}
 use Rattle.std.proofs.lemmas.List.{drop_more}
-use Rattle.gr_lrat.specs.Numerals.{is_digit}
-use Rattle.gr_lrat.proofs.Counted.{capped, digit_is}
-use Rattle.gr_lrat.proofs.numerals.count.Goals as goal
+use Rattle.gr_text.specs.Numerals.{is_digit}
+use Rattle.gr_text.proofs.Capped.{capped, digit-is}
+use Rattle.gr_text.proofs.numerals.long_count.Goals as goal
 
 pub loop-byte-preserved : goal.loop-byte-preserved
 loop-byte-preserved c =
@@ -12,7 +12,7 @@ loop-byte-preserved c =
     let digits = rw split at i.digits in
     let byte = get_or c.args.token.now c.loop-byte.byte-index 0 in
     let later = drop (c.loop-byte.byte-index + 1) c.args.token.now in
-    let digit : is_digit byte ≡ true = digit_is byte c.if-byte-lt48.false c.if-byte-gt57.false in
+    let digit : is_digit byte ≡ true = digit-is byte c.if-byte-lt48.false c.if-byte-gt57.false in
     rw c.next_size-size.ensures (record {
       small = omega arith;
       rest = capped later (10 * c.loop-byte.size + (byte - 48)) (2 ^ 63) ∙ rest;

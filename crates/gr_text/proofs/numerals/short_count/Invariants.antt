@@ -1,7 +1,7 @@
 use Rattle.std.proofs.Common.{◌≡◌, ◌<◌, ◌^◌, drop}
 use Rattle.std.specs.List.{list_all}
-use Rattle.gr_dimacs.specs.Numbers.{value, value_after, is_digit}
-use Rattle.gr_dimacs.proofs.numerals.short_count.Given as goal
+use Rattle.gr_text.specs.Numerals.{value, value_after, is_digit}
+use Rattle.gr_text.proofs.numerals.short_count.Given as goal
 
 -- what is left gives the whole value, and the digits so far a number of no more digits
 abbrev pub invariant-loop-byte : goal.invariant-loop-byte

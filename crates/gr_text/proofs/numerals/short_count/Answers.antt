@@ -1,19 +1,19 @@
 use Rattle.std.proofs.Common.{◌≡◌, ◌∙◌, ◌≤◌, ◌+◌, ◌*◌, ◌-◌, length, get_or, sym, arith, true}
 use Rattle.std.specs.List.{list_all}
 use Rattle.std.proofs.lemmas.List.{at_drop_all, drop_more}
-use Rattle.gr_dimacs.specs.Numbers.{value, value_after, is_digit}
-use Rattle.gr_dimacs.proofs.Capped.{below-cap, counted-whole, digit-is, one-more-digit}
-use Rattle.gr_dimacs.proofs.numerals.short_count.Goals as goal
+use Rattle.gr_text.specs.Numerals.{value, value_after, is_digit}
+use Rattle.gr_text.proofs.Capped.{below-power, counted-whole, digit-is, one-more-digit}
+use Rattle.gr_text.proofs.numerals.short_count.Goals as goal
 
 pub overflow_mul-size : goal.overflow_mul-size
 overflow_mul-size c =
-    let small = below-cap c.loop-byte.size c.loop-byte.byte-index c.loop-byte.invariant.small
+    let small = below-power c.loop-byte.size c.loop-byte.byte-index 17 c.loop-byte.invariant.small
     (omega arith) in
     omega (arith, small)
 
 pub overflow_add-size : goal.overflow_add-size
 overflow_add-size c =
-    let small = below-cap c.loop-byte.size c.loop-byte.byte-index c.loop-byte.invariant.small
+    let small = below-power c.loop-byte.size c.loop-byte.byte-index 17 c.loop-byte.invariant.small
     (omega arith) in
     omega (arith, small, c.from.ensures)
 
@@ -29,7 +29,7 @@ returns c =
     let same : value token ≡ size =
     sym i.rest ∙ at_drop_all (value_after size) token index at_end in
     counted-whole token size (sym c.is_empty.ensures ∙ c.if-is_empty.false) all same
-    (below-cap size index i.small (omega arith))
+    (omega (arith, below-power size index 18 i.small (omega arith)))
 
 pub loop-byte-preserved : goal.loop-byte-preserved
 loop-byte-preserved c =
