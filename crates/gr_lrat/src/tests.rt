@@ -1,10 +1,6 @@
 // Logs that are read and written, compared with tables made by hand.
-ghost use Rattle.std.specs.Prelude.{◌≡◌, ◌≤◌, ◌+◌, ℕ, IfErr, IfOk};
-ghost use Rattle.gr_logic.specs.Log.{HasIds, IsId};
-ghost use Rattle.gr_lrat.specs.Answers.{IsAnswer};
-
 use crate::{LineError, LineReader, Numbered, write_line};
-use gr_io::{MemSource, Sink, Source, TextSink, TextSource};
+use gr_io::{MemSource, Source, TextSink, TextSource};
 use gr_logic::{Clause, Ids, Line, Lit};
 use gr_text::Printer;
 use std::alloc::Global;
@@ -292,83 +288,5 @@ fn writes_additions_and_deletions(rt: HostRuntime) -> Result<(), Fail> {
         sink.text(),
         b"5 -2 0 9223372036854775807 0\n6 d 4 0\n".as_slice()
     );
-    Ok(())
-}
-
-/// An addition of this id, of so many literals, with the id as its hint.
-fn addition(alloc: Global, id: u64, count: i32) -> Result<Line, Fail>
-    requires { IsId id }
-    ensures { IfOk result (λ line. HasIds line) }
-{
-    let mut clause = Clause::new(alloc);
-    for var in 1..count.min(1_000) + 1 {
-        clause.push(Lit::new(var).ok_or("no literal")?.negate())?;
-    }
-    let mut hints = Ids::new(alloc);
-    hints.push(id)?;
-    Ok(Line::Add { id, clause, hints })
-}
-
-/// Writes a thousand additions of up to three hundred literals.
-fn write_many<K: Sink>(alloc: Global, sink: &mut K) -> Result<(), Fail> {
-    let mut printer = Printer::new(sink);
-    for id in 1..1_001u64 {
-        let line = addition(alloc, id, (id % 300) as i32)?;
-        write_line(&line, &mut printer)?;
-    }
-    printer.flush()?;
-    Ok(())
-}
-
-#[test]
-fn a_thousand_lines_of_three_hundred_sizes_are_written_and_read(
-    rt: HostRuntime,
-) -> Result<(), Fail> {
-    let alloc = rt.alloc();
-    let mut sink = TextSink::new(alloc);
-    write_many(alloc, &mut sink)?;
-    let mut source = TextSource::new(Vec::from_slice(alloc, sink.text())?);
-    let mut reader = LineReader::new(alloc, &mut source, ENDLESS)?;
-    for line in 1..1_001u64 {
-        match reader.next()? {
-            Some(
-                Numbered {
-                    number,
-                    line: Line::Add { id, clause, hints },
-                },
-            ) => {
-                assert_eq!(rt; number, line);
-                assert_eq!(rt; id, line);
-                assert_eq!(rt; clause.lits().len() as u64, line % 300);
-                assert_eq!(rt; hints.all(), [line].as_slice());
-            }
-            _ => assert!(rt; false, "line {line} was not read"),
-        }
-    }
-    Ok(())
-}
-
-/// What a caller knows of its source once the reader was dropped.
-fn read_one<S: Source>(alloc: Global, source: &mut S) -> Result<Option<Numbered>, LineError>
-    ensures few { S.taken source.new ≤ S.taken source.old + 100 }
-    ensures full { IfErr result (λ e. (line : ℕ) → e ≡ LineError.TooLong line →
-        S.taken source.new ≡ S.taken source.old + 100) }
-    ensures calm { IsAnswer result → S.faults source.new ≡ S.faults source.old }
-{
-    match LineReader::new(alloc, source, 100) {
-        Ok(mut reader) => reader.next(),
-        Err(_) => Err(LineError::OutOfMemory),
-    }
-}
-
-#[test]
-fn a_log_is_too_long_where_all_bytes_were_taken(rt: HostRuntime) -> Result<(), Fail> {
-    let alloc = rt.alloc();
-    let text = Vec::from_elem(alloc, b'5', 200)?;
-    let mut source = TextSource::new(text);
-    let found = read_one(alloc, &mut source);
-    assert!(rt; matches!(found, Err(LineError::TooLong { line: 1 })));
-    let mut rest = [0u8; 200];
-    assert_eq!(rt; source.read(&mut rest)?, 100);
     Ok(())
 }
