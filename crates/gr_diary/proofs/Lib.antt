@@ -15,7 +15,14 @@ pub mod Lost
 pub mod Looks
 pub mod Small
 pub mod Growing
+pub mod Holding
+pub mod Ternary
+pub mod Replacing
+pub mod Covering
+pub mod Counting
+pub mod Budget
 pub mod SearchLaws
+pub mod Tallies
 pub mod FreshLaws
 pub mod Units
 pub mod Justified
@@ -32,3 +39,5 @@ pub mod Kept
 pub mod Fitting
 pub mod Coming
 pub mod Telling
+pub mod LogIds
+pub mod OwnMoves

@@ -6,12 +6,17 @@ pub mod Histories
 pub mod Invariant
 pub mod SearchRules
 pub mod Laws
+pub mod OwnParts
 pub mod Examples
 pub mod ExampleRuns
 pub mod RuleLaws
+pub mod Tallies
+pub mod HoldingLaws
+pub mod Budget
 pub mod Packing
 pub mod Unpacking
 pub mod Ranges
 pub mod Diaries
 pub mod Keeping
 pub mod DiaryLaws
+pub mod LogIds

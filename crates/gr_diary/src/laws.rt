@@ -1,6 +1,9 @@
 // Laws of the definitions: each is the contract of a function that does nothing.
 ghost use Rattle.gr_diary.specs.Laws.{HistoriesGrow, BeginningsAreLegal, NoLineIsRefused, AddedClausesAreImplied, ReturnedClausesAreParts, EmptyClausesRefute, EntriesKeepTheInvariant, HistoriesKeepTheInvariant, OthersKeepHeld, OwnPartStays, EnabledStays, HeldClausesAreLive, StatesTellTheEnd, NothingFollowsTheEnd, OnlyLostIdsLeave};
 ghost use Rattle.gr_diary.specs.DiaryLaws.{JournalsTellTheLog};
+ghost use Rattle.gr_diary.specs.LogIds.{LinesHaveIds};
+ghost use Rattle.gr_diary.specs.HoldingLaws.{HeldClausesChange, PartsShowHeldClauses, AloneThereAreNoResults};
+ghost use Rattle.gr_diary.specs.OwnParts.{OwnPartMoves};
 
 /// A history grows entry by entry, and each beginning of a legal one is legal.
 pub fn histories_grow()
@@ -42,6 +45,12 @@ pub fn own_part_stays()
     ensures live { HeldClausesAreLive }
 {}
 
+/// What an entry does to its actor's part: what the actor holds and has taken changes by the entry, and no clause that
+/// it may cite then is deleted.
+pub fn own_part_moves()
+    ensures { OwnPartMoves }
+{}
+
 /// A state is closed, or refuted, just where the history is, and nothing follows on a closed history.
 pub fn closed_histories_end()
     ensures told { StatesTellTheEnd }
@@ -56,4 +65,17 @@ pub fn only_lost_ids_leave()
 /// The lines of a diary that has a history's entries, and at each the ids that left, are the history's log.
 pub fn journals_tell_the_log()
     ensures { JournalsTellTheLog }
+{}
+
+/// What an actor holds changes by its own entries as they say, its part shows just this, and without reducers there
+/// are no results.
+pub fn own_entries_change_what_is_held()
+    ensures change { HeldClausesChange }
+    ensures shown { PartsShowHeldClauses }
+    ensures alone { AloneThereAreNoResults }
+{}
+
+/// A log may write each id of a legal history's lines.
+pub fn lines_have_ids()
+    ensures { LinesHaveIds }
 {}

@@ -1,0 +1,2 @@
+pub mod OddRings
+pub mod Pigeonholes
