@@ -257,6 +257,7 @@ impl Base {
         ensures legal { IsTrail self.now.trail }
         ensures small { self.now.trail.vars ≤ 1_000_000 }
     {
+        // That it is a trail, and of how few variables, is what these two calls promise.
         let _depth = self.trail.depth();
         let _vars = self.watches.vars();
         &self.trail
