@@ -20,7 +20,8 @@ pub len-normal : (c : List Literal) → IsNormal c → set.len (set.from_list {R
 len-normal [] normal = set.len-empty literal_cmp
 len-normal (l ∷ ls) normal =
     set.len-insert literal_cmp_total (set.from_list ls) l
-    ∙ ap (λ b. cond b (set.len (set.from_list {R = literal_cmp} ls)) (set.len (set.from_list {R = literal_cmp} ls) + 1)) new
+    ∙ ap (λ b. cond b (set.len (set.from_list {R = literal_cmp} ls))
+    (set.len (set.from_list {R = literal_cmp} ls) + 1)) new
     ∙ (let rest = len-normal ls normal.1 in omega (arith, rest))
   where
     absent : (b : Bool) → members ls l ≡ b → b ≡ false

@@ -63,7 +63,8 @@ module _ (k : Clauses) (first : ℕ) where
         → ((q : ℕ) → Contains ids q → q < id) → AreRanks k first (ids ++ id ∷ []) (ranks ++ y ∷ [])
     ranks-grow y named is one above = record {
       each = All-append (λ x. IsCandidate k first (ranked_of x)) ranks (y ∷ []) old.each
-          (All-cons (λ x. IsCandidate k first (ranked_of x)) y [] is (All-nil (λ x. IsCandidate k first (ranked_of x))));
+          (All-cons (λ x. IsCandidate k first (ranked_of x)) y [] is
+          (All-nil (λ x. IsCandidate k first (ranked_of x))));
       all = λ r x has. subst (λ rs. Contains rs r) (sym (map-append ranked_of ranks (y ∷ [])))
           (among r x (Contains-append_cases ids (id ∷ []) r.id has));
       among = All-append (λ x. Contains (ids ++ id ∷ []) x.id) ranks (y ∷ [])
