@@ -1,0 +1,14 @@
+pub mod Filters
+pub mod Searches
+pub mod SearchCodes
+pub mod Counting
+pub mod Tellings
+pub mod Turns
+pub mod AskLaws
+pub mod Examples
+pub mod Deciding
+pub mod Keeping
+pub mod Settling
+pub mod HeldClauses
+pub mod Solvers
+pub mod Offers
