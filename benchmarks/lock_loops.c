@@ -3,7 +3,8 @@
 //     lock_loops WAIT THREADS TURNS WORK
 //
 // WAIT is `yield` (sched_yield between two looks, as gr_turn does at first) or `spin` (the processor's hint
-// alone). Each turn writes an entry. Prints how many entries there are, and how many turns made one.
+// alone). Each turn writes an entry, and behind it are WORK steps of arithmetic. Prints how many entries there are, how
+// many turns made one, and the sum of what the arithmetic came to: it is the crate's, so no step was left out.
 #include <pthread.h>
 #include <sched.h>
 #include <stdatomic.h>
@@ -36,27 +37,24 @@ static void enter(void) {
 
 static void leave(void) { atomic_fetch_add(&lock.serving, 1); }
 
-static volatile uint64_t sink;
-
-static void steps(void) {
-    uint64_t state = 1;
+static uint64_t steps(uint64_t state) {
     for (unsigned long step = 0; step < work; step++) {
         state ^= state << 13;
         state ^= state >> 7;
         state ^= state << 17;
     }
-    sink = state;
+    return state;
 }
 
 static void *take_turns(void *number) {
+    uint64_t state = (uintptr_t)number;
     for (unsigned long turn = 0; turn < turns; turn++) {
         enter();
         entries[count++] = (uint32_t)(uintptr_t)number;
         leave();
-        if (work)
-            steps();
+        state = steps(state);
     }
-    return NULL;
+    return (void *)(uintptr_t)state;
 }
 
 int main(int argc, char **argv) {
@@ -73,8 +71,13 @@ int main(int argc, char **argv) {
     for (uintptr_t thread = 0; thread < threads; thread++)
         if (pthread_create(&started[thread], NULL, take_turns, (void *)(thread + 1)))
             return 6;
-    for (unsigned long thread = 0; thread < threads; thread++)
-        pthread_join(started[thread], NULL);
-    printf("%llu entries, %lu turns\n", (unsigned long long)count, threads * turns);
+    uint64_t checksum = 0;
+    for (unsigned long thread = 0; thread < threads; thread++) {
+        void *state;
+        pthread_join(started[thread], &state);
+        checksum += (uintptr_t)state;
+    }
+    printf("%llu entries, %lu turns, checksum %llu\n", (unsigned long long)count, threads * turns,
+           (unsigned long long)checksum);
     return 0;
 }

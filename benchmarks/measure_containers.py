@@ -1,5 +1,5 @@
 #!/usr/bin/env python3
-"""Times the loops of gr_timing beside the same loops in C (container_loops.c), in one run.
+"""Times the loops of gr_timing beside the same loops in C (container_loops.c, order_loop.c), in one run.
 
     measure_containers.py PROGRAM [--runs N] [--core N]
 
@@ -16,7 +16,14 @@ import subprocess
 import sys
 import tempfile
 
-ROUNDS = {"arena": 400, "trail": 300, "watches": 700}
+# A loop of gr_timing, its rounds, and the C source and its word for the same loop.
+LOOPS = [
+    ("arena", 400, "container_loops.c", "arena"),
+    ("trail", 300, "container_loops.c", "trail"),
+    ("watches", 700, "container_loops.c", "watches"),
+    ("order", 100_000, "order_loop.c", "order"),
+    ("order", 100_000, "order_loop.c", "list"),
+]
 
 
 def seconds(program, loop, rounds):
@@ -36,37 +43,42 @@ def main():
     options = parser.parse_args()
     if options.core is not None:
         os.sched_setaffinity(0, {options.core})
-    source = os.path.join(os.path.dirname(os.path.abspath(__file__)), "container_loops.c")
+    here = os.path.dirname(os.path.abspath(__file__))
+    compilers = [name for name in ("gcc", "clang") if shutil.which(name)]
+    if not compilers:
+        sys.exit("neither gcc nor clang is there")
     with tempfile.TemporaryDirectory() as folder:
-        programs = {"gr_timing": options.program}
-        for compiler in ("gcc", "clang"):
-            if shutil.which(compiler):
-                programs[compiler] = os.path.join(folder, compiler)
-                subprocess.run([compiler, "-O3", "-o", programs[compiler], source], check=True)
-        if len(programs) == 1:
-            sys.exit("neither gcc nor clang is there")
-        for loop, rounds in ROUNDS.items():
-            times = {name: [] for name in programs}
-            for _ in range(options.runs):
-                answers = set()
-                for name, program in programs.items():
-                    empty, _ = seconds(program, loop, 0)
-                    whole, said = seconds(program, loop, rounds)
-                    times[name].append(whole - empty)
-                    answers.add(said)
-                if len(answers) != 1:
-                    sys.exit(f"{loop}: the checksums differ: {answers}")
-            for name, list_of_times in times.items():
-                print(f"{loop} {name}: " + " ".join(f"{t:.3f}" for t in list_of_times) + " s")
-            ratios = [
-                times["gr_timing"][k] / min(times[name][k] for name in programs if name != "gr_timing")
-                for k in range(options.runs)
-            ]
-            least = min(times["gr_timing"]) / min(min(times[name]) for name in programs if name != "gr_timing")
-            print(
-                f"{loop}: to the faster C program, median {statistics.median(ratios):.2f},"
-                f" {min(ratios):.2f} to {max(ratios):.2f}; of the least times {least:.2f}"
-            )
+        built = {}
+        for source in sorted({source for _, _, source, _ in LOOPS}):
+            for compiler in compilers:
+                built[source, compiler] = os.path.join(folder, f"{source}.{compiler}")
+                command = [compiler, "-O3", "-o", built[source, compiler], os.path.join(here, source)]
+                subprocess.run(command, check=True)
+        for loop, rounds, source, word in LOOPS:
+            programs = {compiler: (built[source, compiler], word) for compiler in compilers}
+            compare(loop, rounds, word, {"gr_timing": (options.program, loop), **programs}, options.runs)
+
+
+def compare(loop, rounds, word, programs, runs):
+    times = {name: [] for name in programs}
+    for _ in range(runs):
+        answers = set()
+        for name, (program, its_word) in programs.items():
+            empty, _ = seconds(program, its_word, 0)
+            whole, said = seconds(program, its_word, rounds)
+            times[name].append(whole - empty)
+            answers.add(said)
+        if len(answers) != 1:
+            sys.exit(f"{loop}: the checksums differ: {answers}")
+    for name, list_of_times in times.items():
+        print(f"{loop} {name}: " + " ".join(f"{t:.3f}" for t in list_of_times) + " s")
+    in_c = [name for name in programs if name != "gr_timing"]
+    ratios = [times["gr_timing"][k] / min(times[name][k] for name in in_c) for k in range(runs)]
+    least = min(times["gr_timing"]) / min(min(times[name]) for name in in_c)
+    print(
+        f"{loop}: to the faster C program ({word}), median {statistics.median(ratios):.2f},"
+        f" {min(ratios):.2f} to {max(ratios):.2f}; of the least times {least:.2f}"
+    )
 
 
 if __name__ == "__main__":

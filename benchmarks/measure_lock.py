@@ -4,10 +4,11 @@
     measure_lock.py PROGRAM [--runs N] [--own] [--case THREADS:TURNS[:WORK]]..
 
 PROGRAM is the built crate gr_timing_lock. The C program is built by gcc or clang, at -O3, and waits in two ways: it
-yields between two looks (`yield`), or gives the processor's hint alone (`spin`). Each run times all in turn, and takes
-off what the same program needs for no turns. With --own, cases of one or two threads have processors 0 and 1 for
-themselves, by real-time priority, which needs root: they are short. A line a case: the wall time per turn of each run
-in nanoseconds, the median, and the processor time per turn.
+yields between two looks (`yield`), or gives the processor's hint alone (`spin`). Behind each turn are WORK steps of
+arithmetic, whose checksum all programs have to agree on. Each run times all in turn; what is taken off is the least that
+the same program needed for no turns. With --own, cases of one or two threads have processors 0 and 1 for themselves, by real-time priority,
+which needs root: they are short. A line a case: the wall time per turn of each run in nanoseconds, the median, and the
+processor time per turn; then the median and the range over the runs of the ratio to the faster C program of the same run.
 """
 import argparse
 import os
@@ -18,7 +19,7 @@ import sys
 import tempfile
 import time
 
-CASES = ["1:2000000", "2:300000", "8:20000"]
+CASES = ["1:2000000", "2:300000", "2:300000:200", "8:20000", "8:20000:1000"]
 LIMIT = 60
 
 
@@ -35,6 +36,11 @@ def seconds(words, own):
     if os.waitstatus_to_exitcode(status) != 0:
         sys.exit(f"{words} ended with {os.waitstatus_to_exitcode(status)}")
     return time.monotonic() - begun, used.ru_utime + used.ru_stime, said
+
+
+def least_of(many, own):
+    measured = [seconds(words, own)[:2] for words in many]
+    return min(wall for wall, _ in measured), min(used for _, used in measured)
 
 
 def main():
@@ -60,16 +66,20 @@ def main():
                 del programs["spin"]
             own = options.own and int(threads) <= 2
             whole = int(threads) * int(turns)
+            idle = {name: least_of([words + [threads, "0", work]] * options.runs, own) for name, words in programs.items()}
             times = {name: [] for name in programs}
             used = {name: [] for name in programs}
             for _ in range(options.runs):
+                answers = set()
                 for name, words in programs.items():
-                    idle, idle_used, _ = seconds(words + [threads, "0", work], own)
                     wall, busy, said = seconds(words + [threads, turns, work], own)
-                    if said != f"{whole} entries, {whole} turns":
+                    if not said.startswith(f"{whole} entries, {whole} turns, "):
                         sys.exit(f"{words}: {said}")
-                    times[name].append((wall - idle) / whole * 1e9)
-                    used[name].append((busy - idle_used) / whole * 1e9)
+                    answers.add(said)
+                    times[name].append((wall - idle[name][0]) / whole * 1e9)
+                    used[name].append((busy - idle[name][1]) / whole * 1e9)
+                if len(answers) != 1:
+                    sys.exit(f"{case}: the checksums differ: {answers}")
             for name in programs:
                 print(
                     f"{threads} threads, {turns} turns each, work {work}, {name}: "
@@ -77,6 +87,14 @@ def main():
                     + f" ns a turn, median {statistics.median(times[name]):.0f};"
                     + f" processor time {statistics.median(used[name]):.0f} ns"
                 )
+            in_c = [name for name in programs if name != "gr_turn"]
+            ratios = [times["gr_turn"][k] / min(times[name][k] for name in in_c) for k in range(options.runs)]
+            print(
+                f"{threads} threads, {turns} turns each, work {work}: to the faster C program, median"
+                f" {statistics.median(ratios):.2f}, {min(ratios):.2f} to {max(ratios):.2f};"
+                f" load {os.getloadavg()[0]:.1f}",
+                flush=True,
+            )
 
 
 if __name__ == "__main__":

@@ -1,5 +1,5 @@
 -- blocks are copied and written over one after another
-use Rattle.std.specs.Prelude.{◌≡◌, ℕ, ◌+◌, ◌/◌, ◌%◌, ◌<◌, ◌≤◌, true, false, if◌then◌else◌, List, [], ◌∷◌, ◌++◌, length, map, take, drop, refl}
+use Rattle.std.specs.Prelude.{◌≡◌, ℕ, ◌+◌, ◌/◌, ◌%◌, ◌<◌, ◌≤◌, true, false, if◌then◌else◌, List, [], ◌∷◌, ◌++◌, length, map, take, drop, refl, ◌-◌}
 use Rattle.std.proofs.Common.{ap, sym, subst, ◌∙◌, arith, set}
 use Rattle.std.proofs.lemmas.List.{length-append, length-set, length-take-le, append_assoc, append-nil, take-append-drop, take_at, drop_at, take_all, drop_all, set_at}
 use Rattle.gr_logic.specs.Words.{word_of}
@@ -7,7 +7,7 @@ use Rattle.gr_logic.specs.declared.words.Word.{Word}
 use Rattle.gr_arena.specs.Arenas.{size}
 use Rattle.gr_arena.specs.Blocks.{Block, word, words_of, count_word, flat, Laid, blocks_in, live, forwarded}
 use Rattle.gr_arena.proofs.Runs.{size_is}
-use Rattle.gr_arena.proofs.Steps.{Next, here, laid_behind, blocks_behind, blocks_of}
+use Rattle.gr_arena.proofs.Steps.{Next, here, laid_behind, blocks_behind, blocks_of, block_words}
 
 -- what is left of the words from a place on, where the first ones were kept, and written over
 pub record Left (first ws ks : List Word) (p : ℕ) : Type 0 where
@@ -36,6 +36,9 @@ module _ {ws : List Word} {p : ℕ} (n : Next ws p) (lt : p < length ws) (to : �
 
   parts : ws ≡ take p ws ++ (words_of b ++ flat n.rest)
   parts = sym (take-append-drop p ws) ∙ ap (λ z. take p ws ++ z) n.are
+
+  pub block_copied : take (to - p) (drop p ws) ≡ words_of b
+  block_copied = ap (λ k. take k (drop p ws)) {y = size b.stored} (omega (arith, at)) ∙ block_words n lt
 
   before : length (take p ws) ≡ p
   before = length-take-le p ws (omega (arith, lt))

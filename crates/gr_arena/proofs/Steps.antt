@@ -1,5 +1,5 @@
 -- blocks are read one after another
-use Rattle.std.specs.Prelude.{◌≡◌, ℕ, ◌+◌, ◌<◌, nat_lt, List, [], ◌∷◌, ◌++◌, length, take, drop}
+use Rattle.std.specs.Prelude.{◌≡◌, ℕ, ◌+◌, ◌<◌, ◌≤◌, nat_lt, List, [], ◌∷◌, ◌++◌, length, take, drop}
 use Rattle.std.proofs.Common.{ap, sym, ◌∙◌, arith, get_or}
 use Rattle.std.proofs.lemmas.List.{length-append, length-drop, drop-drop, drop_at, take_at, get_or-drop}
 use Rattle.std.proofs.Math.Nat.{le_refl}
@@ -48,6 +48,10 @@ module _ {ws : List Word} {p : ℕ} (n : Next ws p) (lt : p < length ws) where
   pub size_read : 4 + count_in (bits_at ws (p + 3)) ≡ step
   size_read = ap (λ k. 4 + count_in k) count_read
       ∙ ap (λ k. 4 + k) (count_back n.block.live (length n.block.stored.lits) n.fit.0.0)
+
+  -- the words have the block whole
+  pub whole : (read : ℕ) → read ≡ 4 + count_in (bits_at ws (p + 3)) → p + read ≤ length ws
+  whole read is = omega (arith, total, is ∙ size_read)
 
   pub live_read : nat_lt (bits_at ws (p + 3)) 2_147_483_648 ≡ n.block.live
   live_read = ap (λ k. nat_lt k 2_147_483_648) count_read

@@ -6,6 +6,7 @@ mod answers;
 mod benches;
 mod books;
 mod copies;
+mod crossing;
 mod forgetting;
 mod holdings;
 mod importing;
@@ -20,3 +21,6 @@ mod units;
 
 pub use answers::{BenchError, Closing, Imported, TakeError, Taken};
 pub use benches::Bench;
+
+#[cfg(test)]
+mod tests;

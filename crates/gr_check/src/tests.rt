@@ -5,32 +5,50 @@ ghost use Rattle.gr_logic.specs.Truth.{IsUnsatisfiable};
 use crate::{Checker, Finish, Refused, RefusedLine, check_all};
 use gr_logic::{Clause, Formula, Ids, Line, Lit, LogLines};
 use std::alloc::Global;
-use std::process::Abort;
 use std::test::Fail;
 
-fn lit(n: i32) -> Result<Lit, Fail> {
-    Ok(Lit::new(n).ok_or("no literal")?)
+/// The clause of these numbers.
+fn clause_of(alloc: Global, numbers: &[i32]) -> Result<Clause, Fail> {
+    let mut clause = Clause::new(alloc);
+    for number in numbers {
+        clause.push(Lit::new(*number).ok_or("no literal")?)?;
+    }
+    Ok(clause)
 }
 
-fn push(rt: &impl Abort, formula: &mut Formula, clause: Clause) -> Result<(), Fail> {
+fn ids_of(alloc: Global, numbers: &[u64]) -> Result<Ids, Fail> {
+    let mut ids = Ids::new(alloc);
+    for number in numbers {
+        ids.push(*number)?;
+    }
+    Ok(ids)
+}
+
+fn push(formula: &mut Formula, clause: Clause) -> Result<(), Fail> {
     let vars = formula.vars();
-    assert!(rt; clause.lits().iter().all(|lit| lit.var() <= vars));
-    assert!(rt; formula.clauses().len() < 2_000);
+    if !clause.lits().iter().all(|lit| lit.var() <= vars) {
+        return Err(Fail::from("a variable above the formula's"));
+    }
+    if formula.clauses().len() >= 2_000 {
+        return Err(Fail::from("more clauses than a test wants"));
+    }
     formula.push(clause)?;
     Ok(())
 }
 
 /// The four clauses over two variables, which nothing satisfies.
-fn square(rt: &impl Abort, alloc: Global) -> Result<Formula, Fail> {
+fn square(alloc: Global) -> Result<Formula, Fail> {
     let mut formula = Formula::new(alloc, 2);
-    for [a, b] in [[1, 2], [1, -2], [-1, 2], [-1, -2]] {
-        push(
-            rt,
-            &mut formula,
-            Clause::from_lits(alloc, &[lit(a)?, lit(b)?])?,
-        )?;
+    for numbers in [[1, 2], [1, -2], [-1, 2], [-1, -2]] {
+        push(&mut formula, clause_of(alloc, &numbers)?)?;
     }
     Ok(formula)
+}
+
+/// A checker of the four clauses.
+fn opened(alloc: Global) -> Result<Checker, Fail> {
+    let formula = square(alloc)?;
+    Ok(Checker::new(alloc, &formula)?)
 }
 
 /// A line in LRAT's text: `id literals 0 hints 0` or `id d ids 0`.
@@ -49,7 +67,7 @@ fn line_of(alloc: Global, text: &str) -> Result<Line, Fail> {
         } else if is_deletion || is_behind_clause {
             ids.push(word.parse::<u64>()?)?;
         } else {
-            clause.push(lit(word.parse::<i32>()?)?)?;
+            clause.push(Lit::new(word.parse::<i32>()?).ok_or("no literal")?)?;
         }
     }
     if is_deletion {
@@ -71,169 +89,215 @@ fn log_of(alloc: Global, text: &str) -> Result<LogLines, Fail> {
     Ok(log)
 }
 
-fn refused(line: u64, why: Refused) -> Result<Finish, RefusedLine> {
-    Err(RefusedLine { line, why })
+/// Logs without a refused line, and what they show.
+const ACCEPTED: [(&str, Finish); 6] = [
+    ("5 1 0 1 2 0 / 6 0 5 3 4 0", Finish::Verified),
+    ("5 1 -1 0 1 2 0", Finish::NoEmptyClause),
+    ("5 1 0 1 2 0", Finish::NoEmptyClause),
+    ("5 d 4 0", Finish::NoEmptyClause),
+    ("5 1 0 1 2 0 / 6 0 5 3 4 0 / 7 2 0 6 0", Finish::Verified),
+    ("9223372036854775807 1 0 1 2 0", Finish::NoEmptyClause),
+];
+
+/// Logs, their first refused line, and why it is refused.
+const REFUSED: [(&str, u64, Refused); 9] = [
+    (
+        "5 1 0 1 2 0 / 5 d 3 0 / 6 0 5 3 4 0",
+        3,
+        Refused::NotLive { id: 3 },
+    ),
+    ("5 0 1 0", 1, Refused::HintNotUnit { id: 1 }),
+    ("4 1 0 1 2 0", 1, Refused::IdNotGreater { id: 4 }),
+    ("5 3 0 1 0", 1, Refused::VarAbove { id: 5 }),
+    ("5 3 0 9 0", 1, Refused::VarAbove { id: 5 }),
+    ("5 1 0 1 0", 1, Refused::NoConflict { id: 5 }),
+    ("5 d 3 3 0", 1, Refused::NotLive { id: 3 }),
+    ("5 d 9 0", 1, Refused::NotLive { id: 9 }),
+    (
+        "9223372036854775807 1 0 1 2 0 / 5 0 9223372036854775807 3 4 0",
+        2,
+        Refused::IdNotGreater { id: 5 },
+    ),
+];
+
+/// Whether this is said of the log of a text.
+fn is_said(
+    alloc: Global,
+    formula: &Formula,
+    text: &str,
+    said: Result<Finish, RefusedLine>,
+) -> Result<bool, Fail> {
+    let log = log_of(alloc, text)?;
+    Ok(check_all(alloc, formula, log.all()) == said)
 }
 
 #[test]
 fn says_of_each_log_what_it_shows(rt: HostRuntime) -> Result<(), Fail> {
-    let alloc = rt.alloc();
-    let formula = square(&rt, alloc)?;
-    let cases = [
-        ("5 1 0 1 2 0 / 6 0 5 3 4 0", Ok(Finish::Verified)),
-        ("5 1 -1 0 1 2 0", Ok(Finish::NoEmptyClause)),
-        ("5 1 0 1 2 0", Ok(Finish::NoEmptyClause)),
-        ("5 d 4 0", Ok(Finish::NoEmptyClause)),
-        (
-            "5 1 0 1 2 0 / 6 0 5 3 4 0 / 7 2 0 6 0",
-            Ok(Finish::Verified),
-        ),
-        (
-            "5 1 0 1 2 0 / 5 d 3 0 / 6 0 5 3 4 0",
-            refused(3, Refused::NotLive { id: 3 }),
-        ),
-        ("5 0 1 0", refused(1, Refused::HintNotUnit { id: 1 })),
-        ("4 1 0 1 2 0", refused(1, Refused::IdNotGreater { id: 4 })),
-        ("5 3 0 1 0", refused(1, Refused::VarAbove { id: 5 })),
-        ("5 3 0 9 0", refused(1, Refused::VarAbove { id: 5 })),
-        ("5 1 0 1 0", refused(1, Refused::NoConflict { id: 5 })),
-        ("5 d 3 3 0", refused(1, Refused::NotLive { id: 3 })),
-        ("5 d 9 0", refused(1, Refused::NotLive { id: 9 })),
-        ("9223372036854775807 1 0 1 2 0", Ok(Finish::NoEmptyClause)),
-        (
-            "9223372036854775807 1 0 1 2 0 / 5 0 9223372036854775807 3 4 0",
-            refused(2, Refused::IdNotGreater { id: 5 }),
-        ),
-    ];
-    for (text, expected) in cases {
-        let log = log_of(alloc, text)?;
-        assert_eq!(rt; check_all(alloc, &formula, log.all()), expected, "{text}");
+    let formula = square(rt.alloc())?;
+    for (text, finish) in ACCEPTED {
+        assert!(rt; is_said(rt.alloc(), &formula, text, Ok(finish))?, "{text}");
     }
-    assert_eq!(rt; check_all(alloc, &formula, &[]), Ok(Finish::NoEmptyClause));
+    for (text, line, why) in REFUSED {
+        let said = Err(RefusedLine { line, why });
+        assert!(rt; is_said(rt.alloc(), &formula, text, said)?, "{text}");
+    }
+    assert!(rt; check_all(rt.alloc(), &formula, &[]) == Ok(Finish::NoEmptyClause));
     Ok(())
+}
+
+/// The lines of one log, and what is said of each.
+const STEPS: [(&str, Result<(), Refused>); 6] = [
+    ("5 2 0 1 0", Err(Refused::NoConflict { id: 5 })),
+    ("5 1 0 1 2 0", Ok(())),
+    ("5 d 5 5 0", Err(Refused::NotLive { id: 5 })),
+    ("5 d 2 1 0", Ok(())),
+    ("6 0 5 1 0", Err(Refused::NotLive { id: 1 })),
+    ("6 0 5 3 4 0", Ok(())),
+];
+
+/// Takes the line of a text: whether this is said of it.
+fn takes(
+    checker: &mut Checker,
+    alloc: Global,
+    text: &str,
+    said: Result<(), Refused>,
+) -> Result<bool, Fail> {
+    let line = line_of(alloc, text)?;
+    Ok(checker.line(&line) == said)
 }
 
 #[test]
 fn goes_on_after_a_refused_line(rt: HostRuntime) -> Result<(), Fail> {
-    let alloc = rt.alloc();
-    let mut checker = Checker::new(alloc, &square(&rt, alloc)?)?;
-    let steps = [
-        ("5 2 0 1 0", Err(Refused::NoConflict { id: 5 })),
-        ("5 1 0 1 2 0", Ok(())),
-        ("5 d 5 5 0", Err(Refused::NotLive { id: 5 })),
-        ("5 d 2 1 0", Ok(())),
-        ("6 0 5 1 0", Err(Refused::NotLive { id: 1 })),
-        ("6 0 5 3 4 0", Ok(())),
-    ];
-    for (text, expected) in steps {
-        let said = checker.line(&line_of(alloc, text)?);
-        assert_eq!(rt; said, expected, "{text}");
+    let mut checker = opened(rt.alloc())?;
+    for (text, said) in STEPS {
+        assert!(rt; takes(&mut checker, rt.alloc(), text, said)?, "{text}");
     }
-    assert_eq!(rt; checker.finish(), Finish::Verified);
+    assert!(rt; checker.finish() == Finish::Verified);
     Ok(())
 }
 
-#[test]
-fn passes_over_a_hundred_thousand_hints_that_are_true_already(rt: HostRuntime) -> Result<(), Fail> {
-    let alloc = rt.alloc();
-    let mut checker = Checker::new(alloc, &square(&rt, alloc)?)?;
+/// Adds a clause under this id.
+fn add(checker: &mut Checker, id: u64, clause: Clause, hints: Ids) -> Result<(), Fail> {
+    checker.line(&Line::Add { id, clause, hints })?;
+    Ok(())
+}
+
+/// The first clause a hundred thousand times, and the second.
+fn many_hints(alloc: Global) -> Result<Ids, Fail> {
     let mut hints = Ids::new(alloc);
     for _ in 0..100_000u32 {
         hints.push(1)?;
     }
     hints.push(2)?;
-    let clause = Clause::from_lits(alloc, &[lit(1)?])?;
-    let line = Line::Add {
-        id: 5,
-        clause,
-        hints,
-    };
-    assert_eq!(rt; checker.line(&line), Ok(()));
-    Ok(())
+    Ok(hints)
 }
 
-/// Adds the clause of these literals under this id.
-fn add(
-    alloc: Global,
+#[test]
+fn passes_over_a_hundred_thousand_hints_that_are_true_already(rt: HostRuntime) -> Result<(), Fail> {
+    let mut checker = opened(rt.alloc())?;
+    let clause = clause_of(rt.alloc(), &[1])?;
+    add(&mut checker, 5, clause, many_hints(rt.alloc())?)
+}
+
+/// Adds the clause of these numbers under this id.
+fn add_of(
     checker: &mut Checker,
+    alloc: Global,
     id: u64,
-    lits: &[Lit],
+    numbers: &[i32],
     hints: &[u64],
 ) -> Result<(), Fail> {
-    let clause = Clause::from_lits(alloc, lits)?;
-    let mut ids = Ids::new(alloc);
-    for hint in hints {
-        ids.push(*hint)?;
-    }
-    checker.line(&Line::Add {
-        id,
-        clause,
-        hints: ids,
-    })?;
+    let clause = clause_of(alloc, numbers)?;
+    add(checker, id, clause, ids_of(alloc, hints)?)
+}
+
+/// Adds a clause under this id, which the next line deletes.
+fn come_and_go(checker: &mut Checker, alloc: Global, id: u64) -> Result<(), Fail> {
+    add_of(checker, alloc, id, &[1, 2], &[1])?;
+    let ids = ids_of(alloc, &[id])?;
+    checker.line(&Line::Delete { id, ids })?;
     Ok(())
 }
 
-/// Adds a clause under each of these ids, which the next line deletes.
-fn come_and_go(alloc: Global, checker: &mut Checker, from: u64, to: u64) -> Result<(), Fail> {
-    for id in from..to {
-        add(alloc, checker, id, &[lit(1)?, lit(2)?], &[1])?;
-        let mut ids = Ids::new(alloc);
-        ids.push(id)?;
-        checker.line(&Line::Delete { id, ids })?;
+/// Adds 1, has many clauses come and go, and then derives the empty clause from 1: what the lines say.
+fn refute_around(checker: &mut Checker, alloc: Global, first: u64) -> Result<Finish, Fail> {
+    add_of(checker, alloc, first, &[1], &[1, 2])?;
+    for step in 1..2_000u64 {
+        come_and_go(checker, alloc, first.saturating_add(step))?;
     }
-    Ok(())
+    add_of(
+        checker,
+        alloc,
+        first.saturating_add(2_000),
+        &[],
+        &[first, 3, 4],
+    )?;
+    Ok(checker.finish())
 }
 
 #[test]
 fn keeps_the_other_clauses_while_many_leave(rt: HostRuntime) -> Result<(), Fail> {
-    let alloc = rt.alloc();
     // Ids that follow the formula's, and ids that are far beyond the number of clauses.
     for first in [5u64, 1 << 40] {
-        let mut checker = Checker::new(alloc, &square(&rt, alloc)?)?;
-        add(alloc, &mut checker, first, &[lit(1)?], &[1, 2])?;
-        come_and_go(alloc, &mut checker, first + 1, first + 2_000)?;
-        add(alloc, &mut checker, first + 2_000, &[], &[first, 3, 4])?;
-        assert_eq!(rt; checker.finish(), Finish::Verified, "from {first} on");
+        let mut checker = opened(rt.alloc())?;
+        let finish = refute_around(&mut checker, rt.alloc(), first)?;
+        assert!(rt; finish == Finish::Verified, "from {first} on");
     }
     Ok(())
 }
 
 /// Not each of the variables below the last one, or the last one.
-fn chain(alloc: Global, last: i32) -> Result<Clause, Fail> {
+fn chain(alloc: Global, last: u32) -> Result<Clause, Fail> {
     let mut clause = Clause::new(alloc);
-    for var in 1..last {
-        clause.push(lit(var)?.negate())?;
+    for index in 0..300u32 {
+        if index < last {
+            clause.push(Lit::from_code(2 * index + 1))?;
+        }
     }
-    clause.push(lit(last)?)?;
+    clause.push(Lit::from_code(2 * (last % 300)))?;
     Ok(clause)
+}
+
+/// A thousand chains, whose ids from 300 on refute the formula with one clause of 300 negations more.
+fn chains(alloc: Global) -> Result<Formula, Fail> {
+    let mut formula = Formula::new(alloc, 300);
+    for id in 1..1_001u32 {
+        push(&mut formula, chain(alloc, id % 300)?)?;
+    }
+    push(&mut formula, negations(alloc)?)?;
+    Ok(formula)
+}
+
+/// Not each of three hundred variables.
+fn negations(alloc: Global) -> Result<Clause, Fail> {
+    let mut clause = Clause::new(alloc);
+    for index in 0..300u32 {
+        clause.push(Lit::from_code(2 * index + 1))?;
+    }
+    Ok(clause)
+}
+
+/// The ids of three hundred chains in their order, and that of the negations.
+fn chain_hints(alloc: Global) -> Result<Ids, Fail> {
+    let mut hints = Ids::new(alloc);
+    for id in 300..600u64 {
+        hints.push(id)?;
+    }
+    hints.push(1_001)?;
+    Ok(hints)
+}
+
+/// Whether the chains are refuted by one line.
+fn refutes_chains(alloc: Global) -> Result<bool, Fail> {
+    let formula = chains(alloc)?;
+    let mut checker = Checker::new(alloc, &formula)?;
+    add(&mut checker, 1_002, Clause::new(alloc), chain_hints(alloc)?)?;
+    Ok(checker.finish() == Finish::Verified)
 }
 
 #[test]
 fn takes_a_thousand_clauses_of_three_hundred_sizes(rt: HostRuntime) -> Result<(), Fail> {
-    let alloc = rt.alloc();
-    let mut formula = Formula::new(alloc, 300);
-    let mut hints = Ids::new(alloc);
-    for id in 1..1_001u64 {
-        let last = (id % 300) as i32 + 1;
-        push(&rt, &mut formula, chain(alloc, last)?)?;
-        if id >= 300 && id < 600 {
-            hints.push(id)?;
-        }
-    }
-    let mut none = Clause::new(alloc);
-    for var in 1..301i32 {
-        none.push(lit(var)?.negate())?;
-    }
-    push(&rt, &mut formula, none)?;
-    hints.push(1_001)?;
-    let line = Line::Add {
-        id: 1_002,
-        clause: Clause::new(alloc),
-        hints,
-    };
-    let mut log = LogLines::new(alloc);
-    log.push(line)?;
-    assert_eq!(rt; check_all(alloc, &formula, log.all()), Ok(Finish::Verified));
+    assert!(rt; refutes_chains(rt.alloc())?);
     Ok(())
 }
 
@@ -252,9 +316,11 @@ fn refute_in_part(alloc: Global, formula: &Formula, lines: &[Line]) -> bool
 
 #[test]
 fn a_refused_line_spoils_nothing(rt: HostRuntime) -> Result<(), Fail> {
-    let alloc = rt.alloc();
-    let formula = square(&rt, alloc)?;
-    let log = log_of(alloc, "5 2 0 1 0 / 5 1 0 1 2 0 / 5 d 5 5 0 / 6 0 5 3 4 0")?;
-    assert!(rt; refute_in_part(alloc, &formula, log.all()));
+    let formula = square(rt.alloc())?;
+    let log = log_of(
+        rt.alloc(),
+        "5 2 0 1 0 / 5 1 0 1 2 0 / 5 d 5 5 0 / 6 0 5 3 4 0",
+    )?;
+    assert!(rt; refute_in_part(rt.alloc(), &formula, log.all()));
     Ok(())
 }

@@ -4,10 +4,11 @@ use Rattle.std.specs.List.{flat_map, range_with_len}
 use Rattle.gr_logic.specs.Literals.{Literal}
 use Rattle.gr_logic.specs.Formulas.{Cnf}
 
--- the variable with the index is true, or false
+-- the variable with the index is true
 abbrev pub is : ℕ → Literal
 is i = record { index = i; positive = true }
 
+-- the variable with the index is false
 abbrev pub is_not : ℕ → Literal
 is_not i = record { index = i; positive = false }
 

@@ -1,5 +1,5 @@
--- which learnt clauses are forgotten (the measure is the literal block distance of Audemard and Simon, IJCAI 2009; the
--- order is this program's own)
+-- which learnt clauses are forgotten (the measure is the literal block distance of Audemard and Simon,
+-- IJCAI 2009; the order is this program's own)
 use Rattle.std.specs.Prelude.{◌≡◌, ◌⊎◌, ◌↔◌, ◌<◌, ◌≤◌, ◌/◌, ℕ, List, length, take, map, All, AllPairs, Contains, Some, nat_eq}
 use Rattle.std.specs.List.{IsDistinct}
 use Rattle.std.specs.List.Sorted.{IsPermutation}

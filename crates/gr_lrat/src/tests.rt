@@ -1,6 +1,6 @@
 // Logs that are read and written, compared with tables made by hand.
 use crate::{LineError, LineReader, Numbered, write_line};
-use gr_io::{MemSource, Source, TextSink, TextSource};
+use gr_io::{MemSource, Sink, Source, TextSink, TextSource};
 use gr_logic::{Clause, Ids, Line, Lit};
 use gr_text::Printer;
 use std::alloc::Global;
@@ -11,282 +11,383 @@ const ENDLESS: u64 = 1 << 40;
 /// A list of ids, told.
 fn tell_ids(alloc: Global, told: &mut Vec<u8>, ids: &Ids) -> Result<(), Fail> {
     for id in ids.all() {
-        let text = format!(in alloc; " {id}")?;
-        told.extend_from_slice(text.as_bytes())?;
+        told.extend_from_slice(format!(in alloc; " {id}")?.as_bytes())?;
     }
     Ok(())
+}
+
+/// Literals, told.
+fn tell_lits(alloc: Global, told: &mut Vec<u8>, lits: &[Lit]) -> Result<(), Fail> {
+    for lit in lits {
+        let n = lit.number();
+        told.extend_from_slice(format!(in alloc; " {n}")?.as_bytes())?;
+    }
+    Ok(())
+}
+
+/// What a line says, told.
+fn tell_line(alloc: Global, told: &mut Vec<u8>, line: &Line) -> Result<(), Fail> {
+    match line {
+        Line::Add { id, clause, hints } => {
+            told.extend_from_slice(format!(in alloc; "adds {id}:")?.as_bytes())?;
+            tell_lits(alloc, told, clause.lits())?;
+            told.extend_from_slice(b" by")?;
+            tell_ids(alloc, told, hints)
+        }
+        Line::Delete { id, ids } => {
+            told.extend_from_slice(format!(in alloc; "deletes, {id}:")?.as_bytes())?;
+            tell_ids(alloc, told, ids)
+        }
+    }
 }
 
 /// What was read, as a line of text.
 fn tell(alloc: Global, told: &mut Vec<u8>, found: &Numbered) -> Result<(), Fail> {
     let number = found.number;
-    match &found.line {
-        Line::Add { id, clause, hints } => {
-            let head = format!(in alloc; "{number} adds {id}:")?;
-            told.extend_from_slice(head.as_bytes())?;
-            for lit in clause.lits() {
-                let n = lit.number();
-                let text = format!(in alloc; " {n}")?;
-                told.extend_from_slice(text.as_bytes())?;
-            }
-            told.extend_from_slice(b" by")?;
-            tell_ids(alloc, told, hints)?;
-        }
-        Line::Delete { id, ids } => {
-            let head = format!(in alloc; "{number} deletes, {id}:")?;
-            told.extend_from_slice(head.as_bytes())?;
-            tell_ids(alloc, told, ids)?;
-        }
-    }
+    told.extend_from_slice(format!(in alloc; "{number} ")?.as_bytes())?;
+    tell_line(alloc, told, &found.line)?;
     told.push(b'\n')?;
     Ok(())
 }
 
+/// Why a log was not read on, but for the line.
+fn cause_of(failed: LineError) -> &'static str {
+    match failed {
+        LineError::BadLine { .. } => "is bad\n",
+        LineError::RatHint { .. } => "has a negative hint\n",
+        LineError::TooLong { .. } => "is too long\n",
+        LineError::ReadFault => "fault\n",
+        LineError::OutOfMemory => "no memory\n",
+    }
+}
+
+/// The line at which a log was not read on.
+fn line_of(failed: LineError) -> Option<u64> {
+    match failed {
+        LineError::BadLine { line } | LineError::RatHint { line } | LineError::TooLong { line } => {
+            Some(line)
+        }
+        LineError::ReadFault | LineError::OutOfMemory => None,
+    }
+}
+
 /// Why a log was not read on, as a line of text.
-fn tell_error(alloc: Global, failed: LineError) -> Result<String, Fail> {
-    Ok(match failed {
-        LineError::BadLine { line } => format!(in alloc; "{line} is bad\n")?,
-        LineError::RatHint { line } => format!(in alloc; "{line} has a negative hint\n")?,
-        LineError::TooLong { line } => format!(in alloc; "{line} is too long\n")?,
-        LineError::ReadFault => format!(in alloc; "fault\n")?,
-        LineError::OutOfMemory => format!(in alloc; "no memory\n")?,
-    })
+fn tell_error(alloc: Global, told: &mut Vec<u8>, failed: LineError) -> Result<(), Fail> {
+    if let Some(line) = line_of(failed) {
+        told.extend_from_slice(format!(in alloc; "{line} ")?.as_bytes())?;
+    }
+    told.extend_from_slice(cause_of(failed).as_bytes())?;
+    Ok(())
 }
 
 /// All that is read up to the end or an error.
-fn tell_all<S: Source>(alloc: Global, source: &mut S, max_bytes: u64) -> Result<Vec<u8>, Fail> {
-    let mut told = Vec::new(alloc);
-    let mut reader = match LineReader::new(alloc, source, max_bytes) {
-        Ok(reader) => reader,
-        Err(_) => return Ok(told),
-    };
-    for _ in 0..1000u64 {
+fn tell_rest<S: Source>(
+    alloc: Global,
+    told: &mut Vec<u8>,
+    reader: &mut LineReader<'_, S>,
+) -> Result<(), Fail> {
+    for _ in 0..2_000u64 {
         match reader.next() {
-            Ok(Some(found)) => tell(alloc, &mut told, &found)?,
+            Ok(Some(found)) => tell(alloc, told, &found)?,
             Ok(None) => {
                 told.extend_from_slice(b"end\n")?;
-                break;
+                return Ok(());
             }
-            Err(failed) => {
-                let text = tell_error(alloc, failed)?;
-                told.extend_from_slice(text.as_bytes())?;
-                break;
-            }
+            Err(failed) => return tell_error(alloc, told, failed),
         }
     }
+    Ok(())
+}
+
+fn tell_all<S: Source>(alloc: Global, source: &mut S, max_bytes: u64) -> Result<Vec<u8>, Fail> {
+    let mut told = Vec::new(alloc);
+    let mut reader = LineReader::new(alloc, source, max_bytes)?;
+    tell_rest(alloc, &mut told, &mut reader)?;
     Ok(told)
 }
 
-fn tell_text(alloc: Global, text: &[u8], max_bytes: u64) -> Result<Vec<u8>, Fail> {
+/// Whether this is told of a log of at most so many bytes.
+fn is_told(alloc: Global, text: &[u8], max_bytes: u64, want: &[u8]) -> Result<bool, Fail> {
     let mut source = TextSource::new(Vec::from_slice(alloc, text)?);
-    tell_all(alloc, &mut source, max_bytes)
+    let told = tell_all(alloc, &mut source, max_bytes)?;
+    Ok(told.as_slice() == want)
 }
+
+/// Logs, and what is told of them.
+const LINES: [(&[u8], &[u8]); 9] = [
+    (b"", b"end\n"),
+    (b"c x\n05 1 0 1 2 0", b"2 adds 5: 1 by 1 2\nend\n"),
+    (
+        b"\r\n\t \n6 -1 2 -2 0 0\r\n",
+        b"3 adds 6: -1 2 -2 by\nend\n",
+    ),
+    (b"7 0 1 0\n8 0 0\n", b"1 adds 7: by 1\n2 adds 8: by\nend\n"),
+    (
+        b"9 d 3 004 0\n00 d 0\n",
+        b"1 deletes, 0: 3 4\n2 deletes, 0:\nend\n",
+    ),
+    (
+        b"9 1000000 -1000000 0 0\n",
+        b"1 adds 9: 1000000 -1000000 by\nend\n",
+    ),
+    (
+        b"9223372036854775807 0 0\n",
+        b"1 adds 9223372036854775807: by\nend\n",
+    ),
+    (b"99999999999999999999 d 1 0\n", b"1 deletes, 0: 1\nend\n"),
+    (
+        b"9 d 4 0\nc 5\n\ncnf\n9 x\n8 0 0",
+        b"1 deletes, 0: 4\n5 is bad\n",
+    ),
+];
 
 #[test]
 fn reads_lines_with_their_numbers(rt: HostRuntime) -> Result<(), Fail> {
-    let rows: [(&[u8], &[u8]); 9] = [
-        (b"", b"end\n"),
-        (b"c x\n05 1 0 1 2 0", b"2 adds 5: 1 by 1 2\nend\n"),
-        (
-            b"\r\n\t \n6 -1 2 -2 0 0\r\n",
-            b"3 adds 6: -1 2 -2 by\nend\n",
-        ),
-        (b"7 0 1 0\n8 0 0\n", b"1 adds 7: by 1\n2 adds 8: by\nend\n"),
-        (
-            b"9 d 3 004 0\n00 d 0\n",
-            b"1 deletes, 0: 3 4\n2 deletes, 0:\nend\n",
-        ),
-        (
-            b"9 1000000 -1000000 0 0\n",
-            b"1 adds 9: 1000000 -1000000 by\nend\n",
-        ),
-        (
-            b"9223372036854775807 0 0\n",
-            b"1 adds 9223372036854775807: by\nend\n",
-        ),
-        (b"99999999999999999999 d 1 0\n", b"1 deletes, 0: 1\nend\n"),
-        (
-            b"9 d 4 0\nc 5\n\ncnf\n9 x\n8 0 0",
-            b"1 deletes, 0: 4\n5 is bad\n",
-        ),
-    ];
-    for (text, told) in rows {
-        let read = tell_text(rt.alloc(), text, ENDLESS)?;
-        assert_eq!(rt; read.as_slice(), told);
+    for (text, want) in LINES {
+        assert!(rt; is_told(rt.alloc(), text, ENDLESS, want)?, "{text:?}");
     }
     Ok(())
 }
 
+/// Lines that are misspelt.
+const BAD: [&[u8]; 18] = [
+    b"9",
+    b"9 0",
+    b"9 1 0 2",
+    b"9 1 00 2 0",
+    b"9 1 0 2 00",
+    b"9 1 0 2 0 3",
+    b"9 -0 0 2 0",
+    b"9 1 0 --2 0",
+    b"9 1 0 - 0",
+    b"9 1000001 0 0",
+    b"0 1 0 0",
+    b"-9 1 0 0",
+    b"9223372036854775808 0 0",
+    b"9 1 0 9223372036854775808 0",
+    b"9 d 4",
+    b"9 d -4 0",
+    b"x d 4 0",
+    b"9 1 0 -2 0 3",
+];
+
+/// Lines with a negative hint.
+const NEGATIVE: [&[u8]; 4] = [
+    b"9 1 0 -2 0",
+    b"9 1 0 -0 0",
+    b"9 1 0 3 -99999999999999999999 4 0",
+    b"9 0 -1 -2 0",
+];
+
 #[test]
 fn tells_misspelt_lines_from_negative_hints(rt: HostRuntime) -> Result<(), Fail> {
-    let bad: [&[u8]; 18] = [
-        b"9",
-        b"9 0",
-        b"9 1 0 2",
-        b"9 1 00 2 0",
-        b"9 1 0 2 00",
-        b"9 1 0 2 0 3",
-        b"9 -0 0 2 0",
-        b"9 1 0 --2 0",
-        b"9 1 0 - 0",
-        b"9 1000001 0 0",
-        b"0 1 0 0",
-        b"-9 1 0 0",
-        b"9223372036854775808 0 0",
-        b"9 1 0 9223372036854775808 0",
-        b"9 d 4",
-        b"9 d -4 0",
-        b"x d 4 0",
-        b"9 1 0 -2 0 3",
-    ];
-    for text in bad {
-        assert_eq!(rt;
-            tell_text(rt.alloc(), text, ENDLESS)?.as_slice(),
-            b"1 is bad\n".as_slice()
+    for text in BAD {
+        assert!(rt;
+            is_told(rt.alloc(), text, ENDLESS, b"1 is bad\n")?,
+            "{text:?}"
         );
     }
-    let negative: [&[u8]; 4] = [
-        b"9 1 0 -2 0",
-        b"9 1 0 -0 0",
-        b"9 1 0 3 -99999999999999999999 4 0",
-        b"9 0 -1 -2 0",
-    ];
-    for text in negative {
-        let told = b"1 has a negative hint\n".as_slice();
-        assert_eq!(rt; tell_text(rt.alloc(), text, ENDLESS)?.as_slice(), told);
+    for text in NEGATIVE {
+        assert!(rt;
+            is_told(rt.alloc(), text, ENDLESS, b"1 has a negative hint\n")?,
+            "{text:?}"
+        );
     }
     Ok(())
+}
+
+/// What is told of the first bytes of `4 1 0 2 0 / 5 d 4 0 /`.
+fn told_of_cut(cut: usize) -> &'static [u8] {
+    match cut {
+        0 => b"end\n",
+        9 | 10 => b"1 adds 4: 1 by 2\nend\n",
+        11..=16 => b"1 adds 4: 1 by 2\n2 is bad\n",
+        17 => b"1 adds 4: 1 by 2\n2 deletes, 0: 4\nend\n",
+        _ => b"1 is bad\n",
+    }
 }
 
 #[test]
 fn a_cut_log_is_read_up_to_the_cut(rt: HostRuntime) -> Result<(), Fail> {
-    let text = b"4 1 0 2 0\n5 d 4 0\n".as_slice();
-    let first = b"1 adds 4: 1 by 2\nend\n".as_slice();
-    let second = b"1 adds 4: 1 by 2\n2 is bad\n".as_slice();
+    let text = b"4 1 0 2 0\n5 d 4 0\n";
     for cut in 0..18usize {
-        let told = match cut {
-            0 => b"end\n".as_slice(),
-            9 | 10 => first,
-            17 => b"1 adds 4: 1 by 2\n2 deletes, 0: 4\nend\n".as_slice(),
-            11..=16 => second,
-            _ => b"1 is bad\n".as_slice(),
-        };
-        if cut <= text.len() {
-            let read = tell_text(rt.alloc(), &text[..cut], ENDLESS)?;
-            assert_eq!(rt; read.as_slice(), told, "cut at {cut}");
-        }
-    }
-    Ok(())
-}
-
-#[test]
-fn a_line_counts_once_its_end_was_taken(rt: HostRuntime) -> Result<(), Fail> {
-    let text = b"4 0 0\nx\n".as_slice();
-    let rows: [(u64, &[u8]); 6] = [
-        (0, b"1 is too long\n"),
-        (5, b"1 is too long\n"),
-        (6, b"1 adds 4: by\n1 is too long\n"),
-        (7, b"1 adds 4: by\n2 is too long\n"),
-        (8, b"1 adds 4: by\n2 is bad\n"),
-        (9, b"1 adds 4: by\n2 is bad\n"),
-    ];
-    for (most, told) in rows {
-        assert_eq!(rt;
-            tell_text(rt.alloc(), text, most)?.as_slice(),
-            told,
-            "most {most}"
+        assert!(rt;
+            is_told(rt.alloc(), &text[..cut], ENDLESS, told_of_cut(cut))?,
+            "cut at {cut}"
         );
     }
     Ok(())
 }
 
+/// Logs, how many bytes of them may be taken, and what is told of them.
+const LIMITS: [(&[u8], u64, &[u8]); 9] = [
+    // A line counts once its end was taken.
+    (b"4 0 0\nx\n", 0, b"1 is too long\n"),
+    (b"4 0 0\nx\n", 5, b"1 is too long\n"),
+    (b"4 0 0\nx\n", 6, b"1 adds 4: by\n1 is too long\n"),
+    (b"4 0 0\nx\n", 7, b"1 adds 4: by\n2 is too long\n"),
+    (b"4 0 0\nx\n", 8, b"1 adds 4: by\n2 is bad\n"),
+    (b"4 0 0\nx\n", 9, b"1 adds 4: by\n2 is bad\n"),
+    // Any number is a limit.
+    (
+        b"4 1 0 2 0\n\n5 d 4 0\n",
+        u64::MAX,
+        b"1 adds 4: 1 by 2\n3 deletes, 0: 4\nend\n",
+    ),
+    (
+        b"4 1 0 2 0\n\n5 d 4 0\n",
+        u64::MAX - 1,
+        b"1 adds 4: 1 by 2\n3 deletes, 0: 4\nend\n",
+    ),
+    (
+        b"4 1 0 2 0\n\n5 d 4 0\n",
+        1 << 63,
+        b"1 adds 4: 1 by 2\n3 deletes, 0: 4\nend\n",
+    ),
+];
+
 #[test]
-fn any_number_is_a_limit_on_bytes(rt: HostRuntime) -> Result<(), Fail> {
-    let text = b"4 1 0 2 0\n\n5 d 4 0\n".as_slice();
-    let told = b"1 adds 4: 1 by 2\n3 deletes, 0: 4\nend\n".as_slice();
-    for max_bytes in [u64::MAX, u64::MAX - 1, 1 << 63] {
-        let read = tell_text(rt.alloc(), text, max_bytes)?;
-        assert_eq!(rt; read.as_slice(), told, "at most {max_bytes} bytes");
+fn keeps_the_limit_on_bytes(rt: HostRuntime) -> Result<(), Fail> {
+    for (text, most, want) in LIMITS {
+        assert!(rt;
+            is_told(rt.alloc(), text, most, want)?,
+            "{text:?}, at most {most} bytes"
+        );
     }
     Ok(())
 }
+
+/// Whether this is told of `4 1 0 2 0 / x /` in pieces of a size, where a call fails.
+fn is_told_by_pieces(alloc: Global, size: usize, failing: u64, want: &[u8]) -> Result<bool, Fail> {
+    let text = Vec::from_slice(alloc, b"4 1 0 2 0\nx\n")?;
+    if size == 0 {
+        return Err(Fail::from("no pieces"));
+    }
+    let mut source = MemSource::new(text, size, Vec::from_slice(alloc, &[failing])?);
+    let told = tell_all(alloc, &mut source, ENDLESS)?;
+    Ok(told.as_slice() == want)
+}
+
+/// Sizes of pieces, the call that fails, and what is told.
+const PIECES: [(usize, u64, &[u8]); 4] = [
+    (1, 0, b"1 adds 4: 1 by 2\n2 is bad\n"),
+    (3, 2, b"fault\n"),
+    (5, 3, b"1 adds 4: 1 by 2\nfault\n"),
+    (50, 2, b"1 adds 4: 1 by 2\n2 is bad\n"),
+];
 
 #[test]
 fn pieces_and_faults(rt: HostRuntime) -> Result<(), Fail> {
-    let text = b"4 1 0 2 0\nx\n".as_slice();
-    let rows: [(usize, u64, &[u8]); 4] = [
-        (1, 0, b"1 adds 4: 1 by 2\n2 is bad\n"),
-        (3, 2, b"fault\n"),
-        (5, 3, b"1 adds 4: 1 by 2\nfault\n"),
-        (50, 2, b"1 adds 4: 1 by 2\n2 is bad\n"),
-    ];
-    for (chunk, failing, told) in rows {
-        if chunk > 0 {
-            let text = Vec::from_slice(rt.alloc(), text)?;
-            let fail = Vec::from_slice(rt.alloc(), &[failing])?;
-            let mut source = MemSource::new(text, chunk, fail);
-            let read = tell_all(rt.alloc(), &mut source, ENDLESS)?;
-            assert_eq!(rt; read.as_slice(), told, "pieces of {chunk}");
-        }
+    for (size, failing, want) in PIECES {
+        assert!(rt;
+            is_told_by_pieces(rt.alloc(), size, failing, want)?,
+            "pieces of {size}"
+        );
     }
     Ok(())
 }
 
-#[test]
-fn reads_a_line_longer_than_any_buffer(rt: HostRuntime) -> Result<(), Fail> {
-    let mut text = Vec::from_slice(rt.alloc(), b"9 0 ")?;
-    for _ in 0..100_000u64 {
-        text.extend_from_slice(b"12345678 ")?;
-    }
-    text.extend_from_slice(b"0\n")?;
-    let mut source = TextSource::new(text);
-    let mut reader = LineReader::new(rt.alloc(), &mut source, ENDLESS)?;
-    match reader.next() {
-        Ok(
-            Some(
-                Numbered {
-                    number: 1,
-                    line: Line::Add {
-                        id: 9,
-                        clause: _,
-                        hints,
-                    },
-                },
-            ),
-        ) => {
-            assert_eq!(rt; hints.all().len(), 100_000);
-            assert!(rt; hints.all().iter().all(|id| *id == 12_345_678));
-        }
-        _ => assert!(rt; false, "no line was read"),
+/// Appends the numbers up to this one, with a blank before each.
+fn append_numbers(alloc: Global, text: &mut Vec<u8>, last: u64) -> Result<(), Fail> {
+    for below in 0..last {
+        let number = below.saturating_add(1);
+        text.extend_from_slice(format!(in alloc; " {number}")?.as_bytes())?;
     }
     Ok(())
+}
+
+/// Appends the numbers up to one, a text, those up to another, and a text.
+fn append_both(
+    alloc: Global,
+    text: &mut Vec<u8>,
+    firsts: (u64, &[u8]),
+    seconds: (u64, &[u8]),
+) -> Result<(), Fail> {
+    append_numbers(alloc, text, firsts.0)?;
+    text.extend_from_slice(firsts.1)?;
+    append_numbers(alloc, text, seconds.0)?;
+    text.extend_from_slice(seconds.1)?;
+    Ok(())
+}
+
+/// A thousand lines of many sizes, and one that is longer than any buffer.
+fn long_log(alloc: Global) -> Result<Vec<u8>, Fail> {
+    let mut text = Vec::new(alloc);
+    for id in 1..1_001u64 {
+        text.extend_from_slice(format!(in alloc; "{id}")?.as_bytes())?;
+        append_both(alloc, &mut text, (id % 300, b" 0"), (id % 70, b" 0\n"))?;
+    }
+    text.extend_from_slice(b"1001")?;
+    append_both(alloc, &mut text, (3, b" 0"), (100_000, b" 0\n"))?;
+    Ok(text)
+}
+
+/// What is told of these lines.
+fn long_told(alloc: Global) -> Result<Vec<u8>, Fail> {
+    let mut told = Vec::new(alloc);
+    for id in 1..1_001u64 {
+        told.extend_from_slice(format!(in alloc; "{id} adds {id}:")?.as_bytes())?;
+        append_both(alloc, &mut told, (id % 300, b" by"), (id % 70, b"\n"))?;
+    }
+    told.extend_from_slice(b"1001 adds 1001:")?;
+    append_both(alloc, &mut told, (3, b" by"), (100_000, b"\nend\n"))?;
+    Ok(told)
+}
+
+#[test]
+fn reads_a_thousand_lines_of_many_sizes(rt: HostRuntime) -> Result<(), Fail> {
+    let text = long_log(rt.alloc())?;
+    let told = long_told(rt.alloc())?;
+    assert!(rt; is_told(rt.alloc(), text.as_slice(), ENDLESS, told.as_slice())?);
+    Ok(())
+}
+
+/// The clause of the negations of the variables from 300 down to 1.
+fn long_clause(alloc: Global) -> Result<Clause, Fail> {
+    let mut clause = Clause::new(alloc);
+    for index in 0..300u32 {
+        clause.push(Lit::from_code(599 - 2 * index))?;
+    }
+    Ok(clause)
+}
+
+/// Writes the line that adds these literals by the greatest id, and one that deletes 4.
+fn write_two<K: Sink>(alloc: Global, sink: &mut K, clause: Clause) -> Result<(), Fail> {
+    let mut printer = Printer::new(sink);
+    let hints = Ids::from_vec(Vec::from_slice(alloc, &[9_223_372_036_854_775_807])?);
+    let addition = Line::Add {
+        id: 5,
+        clause,
+        hints,
+    };
+    write_line(&addition, &mut printer)?;
+    let ids = Ids::from_vec(Vec::from_slice(alloc, &[4])?);
+    write_line(&Line::Delete { id: 6, ids }, &mut printer)?;
+    printer.flush()?;
+    Ok(())
+}
+
+/// Whether these lines are so long, and begin and end so.
+fn is_written(
+    alloc: Global,
+    clause: Clause,
+    len: usize,
+    front: &[u8],
+    back: &[u8],
+) -> Result<bool, Fail> {
+    let mut sink = TextSink::new(alloc);
+    write_two(alloc, &mut sink, clause)?;
+    let text = sink.text();
+    Ok(text.len() == len && text.starts_with(front) && text.ends_with(back))
 }
 
 #[test]
 fn writes_additions_and_deletions(rt: HostRuntime) -> Result<(), Fail> {
-    let mut sink = TextSink::new(rt.alloc());
-    let mut printer = Printer::new(&mut sink);
-    let mut clause = Clause::new(rt.alloc());
-    if let Some(lit) = Lit::new(-2) {
-        clause.push(lit)?;
-    }
-    let mut hints = Ids::new(rt.alloc());
-    hints.push(9_223_372_036_854_775_807)?;
-    write_line(
-        &Line::Add {
-            id: 5,
-            clause,
-            hints,
-        },
-        &mut printer,
-    )?;
-    let mut ids = Ids::new(rt.alloc());
-    ids.push(4)?;
-    write_line(&Line::Delete { id: 6, ids }, &mut printer)?;
-    printer.flush()?;
-    assert_eq!(rt;
-        sink.text(),
-        b"5 -2 0 9223372036854775807 0\n6 d 4 0\n".as_slice()
-    );
+    let alloc = rt.alloc();
+    let whole = b"5 -2 0 9223372036854775807 0\n6 d 4 0\n";
+    let clause = Clause::from_lits(alloc, &[Lit::of_var(2, false)])?;
+    assert!(rt; is_written(alloc, clause, 37, whole, whole)?);
+    let back = b" -2 -1 0 9223372036854775807 0\n6 d 4 0\n";
+    assert!(rt; is_written(alloc, long_clause(alloc)?, 1_426, b"5 -300 -299 ", back)?);
     Ok(())
 }

@@ -3,7 +3,7 @@ ghost use Rattle.std.specs.Prelude.{◌≡◌, ◌≢◌, ◌≤◌, ◌<◌, �
 ghost use Rattle.std.specs.FinMap as finite;
 ghost use Rattle.gr_logic.specs.NormalForms.{IsNormal};
 ghost use Rattle.gr_arena.specs.Arenas.{Stored};
-ghost use Rattle.gr_trail.specs.Trails.{true_in, value_in};
+ghost use Rattle.gr_trail.specs.Trails.{IsTrail, true_in, value_in};
 ghost use Rattle.gr_prop.specs.Bases.{BaseState, BaseClause, clauses_in, decisions, empty_base, LacksId, HasIdAt, IsBase};
 ghost use Rattle.gr_prop.specs.BaseChanges.{IsAddable, IsAdded, IsSettled, IsGrown, with_decision, back_to, Ends, AreIdsOf, IsCompacted};
 
@@ -254,7 +254,12 @@ impl Base {
     pub fn trail(&self) -> &Trail
         ensures trail { result.now ≡ self.now.trail }
         ensures base { IsBase self.now }
+        ensures legal { IsTrail self.now.trail }
+        ensures small { self.now.trail.vars ≤ 1_000_000 }
     {
+        // That it is a trail, and of how few variables, is what these two calls promise.
+        let _depth = self.trail.depth();
+        let _vars = self.watches.vars();
         &self.trail
     }
 

@@ -1,5 +1,6 @@
-// Small bases against worked rows, and against plain unit propagation.
+// Bases against worked rows, and small ones against plain unit propagation.
 mod calls;
 mod comparisons;
 mod formulas;
+mod large;
 mod rows;

@@ -223,24 +223,34 @@ mod tests {
         Ok(())
     }
 
+    fn print_number<K: Sink>(sink: &mut K, n: i64) -> Result<(), SinkError> {
+        let mut printer = Printer::new(sink);
+        printer.number(n)?;
+        printer.bytes(b" ")?;
+        printer.flush()
+    }
+
+    /// Whether a number is printed so, with a blank behind it.
+    fn is_printed(alloc: Global, n: i64, want: &[u8]) -> Result<bool, Fail> {
+        let mut sink = TextSink::new(alloc);
+        print_number(&mut sink, n)?;
+        Ok(sink.text().strip_suffix(b" ") == Some(want))
+    }
+
+    const NUMBERS: [(i64, &[u8]); 7] = [
+        (0, b"0"),
+        (-7, b"-7"),
+        (10, b"10"),
+        (-99, b"-99"),
+        (1000000, b"1000000"),
+        (i64::MAX, b"9223372036854775807"),
+        (i64::MIN, b"-9223372036854775808"),
+    ];
+
     #[test]
     fn numbers_are_decimal(rt: HostRuntime) -> Result<(), Fail> {
-        let rows: [(i64, &[u8]); 7] = [
-            (0, b"0"),
-            (-7, b"-7"),
-            (10, b"10"),
-            (-99, b"-99"),
-            (1000000, b"1000000"),
-            (i64::MAX, b"9223372036854775807"),
-            (i64::MIN, b"-9223372036854775808"),
-        ];
-        for (n, want) in rows {
-            let mut sink = TextSink::new(rt.alloc());
-            let mut printer = Printer::new(&mut sink);
-            printer.number(n)?;
-            printer.bytes(b" ")?;
-            printer.flush()?;
-            assert_eq!(rt; sink.text().strip_suffix(b" "), Some(want), "number {n}");
+        for (n, want) in NUMBERS {
+            assert!(rt; is_printed(rt.alloc(), n, want)?, "number {n}");
         }
         Ok(())
     }
@@ -276,19 +286,21 @@ mod tests {
         Ok(())
     }
 
+    /// Whether the printing ends where this write fails, with the front of the whole text written.
+    fn is_cut(alloc: Global, long: &[u8], whole: &[u8], call: u64) -> Result<bool, Fail> {
+        let failing = Vec::from_slice(alloc, &[call])?;
+        let mut sink = MemSink::new(alloc, failing, 100);
+        let is_failed = print_much(&mut sink, long).is_err();
+        Ok(is_failed && whole.starts_with(sink.text()) && sink.text().len() < whole.len())
+    }
+
     #[test]
     fn each_failed_write_ends_the_printing(rt: HostRuntime) -> Result<(), Fail> {
-        let alloc = rt.alloc();
         let long = [b'x'; 5000];
-        let want = much(alloc, &long)?;
+        let whole = much(rt.alloc(), &long)?;
         for call in 1..6u64 {
-            let mut sink = MemSink::new(alloc, Vec::from_slice(alloc, &[call])?, 100);
-            let printed = print_much(&mut sink, &long);
-            assert_eq!(rt; printed.is_err(), call <= 5, "call {call}");
-            assert!(rt; want.starts_with(sink.text()), "call {call}");
-            assert_eq!(rt;
-                sink.text().len() == want.len(),
-                printed.is_ok(),
+            assert!(rt;
+                is_cut(rt.alloc(), &long, whole.as_slice(), call)?,
                 "call {call}"
             );
         }

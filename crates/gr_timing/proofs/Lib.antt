@@ -1,3 +1,5 @@
+mod Decided
+mod Ended
 mod Lists
 mod Maps
 mod Places

@@ -1,5 +1,5 @@
 -- the rounds of propagation over a formula's clauses
-use Rattle.std.specs.Prelude.{◌≡◌, ◌⊎◌, ◌≤◌, ℕ, Bool, true, false, List, [], ◌∷◌, ◌++◌, Some, is_some, if◌then◌else◌}
+use Rattle.std.specs.Prelude.{◌≡◌, ◌⊎◌, ◌≤◌, ℕ, List, [], ◌∷◌, ◌++◌, Option, Some, None, is_some, if◌then◌else◌}
 use Rattle.std.specs.FinMap as finite
 use Rattle.std.specs.FinSet as set
 use Rattle.gr_logic.specs.Literals.{Literal}
@@ -31,9 +31,9 @@ abbrev pub HasIdsUpTo : ℕ → Clauses → Type 0
 HasIdsUpTo n clauses = (place : ℕ) (b : BaseClause) → finite.get clauses place ≡ Some b → b.id ≤ n
 
 -- how propagation ended: the trail is the closure, or a clause is false
-abbrev pub EndsAs : Bool → BaseState → Type 0
-EndsAs true b = Ends Quiet b
-EndsAs false b = (place : Place) × Ends (Conflict place) b
+abbrev pub EndsAs : Option Place → BaseState → Type 0
+EndsAs None b = Ends Quiet b
+EndsAs (Some place) b = Ends (Conflict place) b
 
 -- the decisions, with this one behind them where its variable has no value
 abbrev pub decided : List Assigned → Literal → List Literal

@@ -64,7 +64,7 @@ fn scan(arena: &Arena, places: &[Place]) -> u64
 }
 
 /// The sum of the literals' codes, without what does not fit in 64 bits.
-fn codes(lits: &[Lit]) -> u64
+pub(crate) fn codes(lits: &[Lit]) -> u64
     ensures { result ≡ codes_of lits.now % 2 ^ 64 }
 {
     let mut sum = 0u64;

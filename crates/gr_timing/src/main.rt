@@ -1,12 +1,15 @@
-//! Loops over the arena, the trail, the watch lists and the base, to be timed from outside beside the same loops in C.
+//! Loops over the arena, the trail, the watch lists, the decision order and the base, and of conflict analysis, to be
+//! timed from outside beside the same loops in C.
 //!
-//! Words: `arena N`, `trail N`, `watches N` or `propagation FILE N`. The loop is run N times over data that are the
-//! same in each run, and its checksum is printed.
+//! Words: `arena N`, `trail N`, `watches N`, `order N`, `propagation FILE N` or `analysis FILE N`. The loop is run N
+//! times over data that are the same in each run, and its checksum is printed.
 #![tactic(auto)]
 
+mod analyses;
 mod arenas;
 mod bases;
 mod mixing;
+mod orders;
 mod propagations;
 mod trails;
 mod watches;
@@ -50,10 +53,23 @@ fn main(rt: HostRuntime) -> io::Result<ExitCode> {
 fn run(rt: HostRuntime, args: &[String]) -> Result<u64, Stop> {
     match args {
         [_name, kind, rounds] => run_on_own_data(rt, kind.as_str(), rounds_of(rounds)?),
-        [_name, kind, file, rounds] if kind.as_str() == "propagation" => {
-            let rounds = rounds_of(rounds)?;
+        [_name, kind, file, rounds] => {
+            run_on_formula(rt, kind.as_str(), file, rounds_of(rounds)?)
+        }
+        _ => Err(Stop::Usage),
+    }
+}
+
+/// Runs the loop of this name over the formula in a file.
+fn run_on_formula(rt: HostRuntime, kind: &str, file: &String, rounds: u32) -> Result<u64, Stop> {
+    match kind {
+        "propagation" => {
             let formula = formula_in(rt, file)?;
             Ok(propagations::rounds(rt.alloc(), &formula, rounds)?)
+        }
+        "analysis" => {
+            let formula = formula_in(rt, file)?;
+            Ok(analyses::rounds(rt.alloc(), &formula, rounds)?)
         }
         _ => Err(Stop::Usage),
     }
@@ -63,6 +79,7 @@ fn run(rt: HostRuntime, args: &[String]) -> Result<u64, Stop> {
 fn run_on_own_data(rt: HostRuntime, kind: &str, rounds: u32) -> Result<u64, Stop> {
     match kind {
         "arena" => Ok(arenas::scans(rt.alloc(), rounds)?),
+        "order" => Ok(orders::rounds(rt.alloc(), rounds)?),
         "trail" => Ok(trails::rounds(rt.alloc(), rounds)?),
         "watches" => Ok(watches::walks(rt.alloc(), rounds)?),
         _ => Err(Stop::Usage),

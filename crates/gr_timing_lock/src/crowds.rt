@@ -19,6 +19,15 @@ pub struct Counts {
     pub entries: u64,
     /// How many turns made one, all guests together.
     pub turns: u64,
+    /// The sum of what the guests' arithmetic came to, without what does not fit in 64 bits.
+    pub checksum: u64,
+}
+
+/// What the guests bring back.
+#[derive(Clone, Copy, Debug)]
+struct Brought {
+    turns: u64,
+    checksum: u64,
 }
 
 /// So many guests, each in a thread of its own, take so many turns each.
@@ -38,11 +47,12 @@ pub fn crowd<R: Threads + Wait + Sync>(
     } = Turn::open(alloc, Tally { entries })?;
     let guests = seat_all(alloc, &turn, &mut first, threads)?;
     let guests = turn_all(rt, &turn, guests, turns, work)?;
-    let turns = join_all(&turn, &mut first, guests);
+    let brought = join_all(&turn, &mut first, guests);
     let tally = turn.close(first);
     Ok(Counts {
         entries: tally.count(),
-        turns,
+        turns: brought.turns,
+        checksum: brought.checksum,
     })
 }
 
@@ -63,7 +73,7 @@ fn seat_all(
     let mut guests = Vec::new(alloc);
     for before in 0..threads {
         let seat = turn.split(first);
-        guests.push(Guest::new(seat, before + 1, 0))?;
+        guests.push(Guest::new(seat, before + 1, 0, before as u64 + 1))?;
     }
     Ok(guests)
 }
@@ -91,8 +101,8 @@ fn turn_all<R: Threads + Wait + Sync>(
     Ok(back)
 }
 
-/// Takes the guests back. Gives the number of their turns that made an entry.
-fn join_all(turn: &Turn<Tally>, first: &mut Seat<Tally>, guests: Vec<Guest>) -> u64
+/// Takes the guests back. Gives the number of their turns that made an entry, and their checksum.
+fn join_all(turn: &Turn<Tally>, first: &mut Seat<Tally>, guests: Vec<Guest>) -> Brought
     requires away { IsAway turn.now first.old × (first.old.number ≡ 0) }
     requires out { first.old.out ≡ vec_len guests }
     requires there { All (IsAt turn.now) guests.items }
@@ -100,14 +110,17 @@ fn join_all(turn: &Turn<Tally>, first: &mut Seat<Tally>, guests: Vec<Guest>) -> 
     ensures out { first.new.out ≡ 0 }
 {
     let mut turns = 0u64;
+    let mut checksum = 0u64;
     for guest in guests {
         turns = turns.saturating_add(guest.made);
+        checksum = checksum.wrapping_add(guest.state);
         let Guest {
             seat,
             who: _,
             made: _,
+            state: _,
         } = guest;
         turn.join(first, seat);
     }
-    turns
+    Brought { turns, checksum }
 }

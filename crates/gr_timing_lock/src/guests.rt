@@ -11,6 +11,8 @@ pub struct Guest {
     pub who: u32,
     /// How many of its turns made an entry.
     pub made: u64,
+    /// What its arithmetic between turns came to.
+    pub state: u64,
     ghost named: { seat.number ≡ who },
     ghost beside: { 0 < who },
     ghost away: { seat.in_turn ≡ false },
@@ -19,12 +21,17 @@ pub struct Guest {
 
 impl Guest {
     /// A guest of this seat.
-    pub fn new(seat: Seat<Tally>, who: u32, made: u64) -> Guest
+    pub fn new(seat: Seat<Tally>, who: u32, made: u64, state: u64) -> Guest
         requires named { (seat.number ≡ who) × (0 < who) }
         requires away { seat.in_turn ≡ false }
         requires owns { length seat.own ≡ made }
-        ensures { (result.seat ≡ seat) × (result.who ≡ who) × (result.made ≡ made) }
+        ensures { (result.seat ≡ seat) × (result.who ≡ who) × (result.made ≡ made) × (result.state ≡ state) }
     {
-        Guest { seat, who, made }
+        Guest {
+            seat,
+            who,
+            made,
+            state,
+        }
     }
 }

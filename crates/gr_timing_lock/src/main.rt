@@ -1,8 +1,8 @@
 //! Seats that take turns at a lock, to be timed from outside beside a ticket lock in C.
 //!
 //! Words: `THREADS TURNS WORK`. So many seats, each in a thread of its own, take so many turns.
-//! Between two turns are so many steps of arithmetic, and each turn makes an entry. It prints how many
-//! entries the history then has, and how many turns made one.
+//! Behind each turn are so many steps of arithmetic, and each turn makes an entry. It prints how many
+//! entries the history then has, how many turns made one, and the sum of what the arithmetic came to.
 #![tactic(auto)]
 
 mod crowds;
@@ -35,7 +35,10 @@ fn main(rt: HostRuntime) -> io::Result<ExitCode> {
     let args = env::args(&rt)?.collect::<Vec<String>>(rt.alloc())?;
     match run(&rt, rt.alloc(), &args) {
         Ok(counts) => {
-            println!(rt; "{} entries, {} turns", counts.entries, counts.turns)?;
+            println!(rt;
+                "{} entries, {} turns, checksum {}",
+                counts.entries, counts.turns, counts.checksum
+            )?;
             Ok(ExitCode::SUCCESS)
         }
         Err(Stop::Usage) => Ok(ExitCode::from(2)),

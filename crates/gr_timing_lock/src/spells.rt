@@ -6,10 +6,10 @@ ghost use Rattle.gr_timing_lock.specs.Crowds.{IsAt, IsFresh};
 use crate::guests::Guest;
 use crate::tallies::Tally;
 use gr_turn::{Seat, Turn};
-use std::hint::black_box;
 use std::sync::Wait;
 
-/// So many turns, with so many steps of arithmetic between two of them.
+/// So many turns, with so many steps of arithmetic behind each. The steps go on from turn to turn, and what they
+/// come to goes back with the guest: else the compiler leaves them out.
 pub fn take_turns<R: Wait>(rt: &R, turn: &Turn<Tally>, guest: Guest, turns: u32, work: u32) -> Guest
     requires { IsFresh turn.now guest }
     ensures { IsAt turn.now result }
@@ -18,14 +18,15 @@ pub fn take_turns<R: Wait>(rt: &R, turn: &Turn<Tally>, guest: Guest, turns: u32,
         mut seat,
         who,
         mut made,
+        mut state,
     } = guest;
     for _ in 0..turns {
         if take_turn(rt, turn, &mut seat, who) {
             made += 1;
         }
-        steps(work);
+        state = steps(state, work);
     }
-    Guest::new(seat, who, made)
+    Guest::new(seat, who, made, state)
 }
 
 /// One turn, and whether it made an entry.
@@ -44,13 +45,13 @@ fn take_turn<R: Wait>(rt: &R, turn: &Turn<Tally>, seat: &mut Seat<Tally>, who: u
     grown
 }
 
-/// Steps of arithmetic, each on what the one before gave.
-fn steps(work: u32) -> u64 {
-    let mut state = 1u64;
+/// Steps of arithmetic, each on what the one before gave (xorshift: Marsaglia 2003).
+fn steps(from: u64, work: u32) -> u64 {
+    let mut state = from;
     for _step in 0..work {
         state ^= state << 13;
         state ^= state >> 7;
         state ^= state << 17;
     }
-    black_box(state)
+    state
 }

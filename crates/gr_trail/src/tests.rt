@@ -37,3 +37,14 @@ fn tells_each_assignment(rt: HostRuntime) -> Result<(), Fail> {
     assert_eq!(rt; (trail.level(3), trail.position(3)), (1, 2));
     Ok(())
 }
+
+#[test]
+fn is_made_for_many_variables(rt: HostRuntime) -> Result<(), Fail> {
+    for vars in 0..1_000u32 {
+        Trail::new(rt.alloc(), vars)?;
+    }
+    let mut trail = Trail::new(rt.alloc(), 1_000_000)?;
+    trail.decide(Lit::of_var(1_000_000, true));
+    assert_eq!(rt; trail.lits().len(), 1);
+    Ok(())
+}

@@ -41,7 +41,8 @@ new-in set c = at (first-failing (λ q. set (negation q)) c)
     test l m free false false new e = inr (has-none set c l m free e)
 
     falsified : AreAllFalse set c
-        → ((l : Literal) × ((members c l ≡ true) × (set l ≡ false))) ⊎ ((q : Literal) → members c q ≡ true → set q ≡ true)
+        → ((l : Literal) × ((members c l ≡ true) × (set l ≡ false)))
+        ⊎ ((q : Literal) → members c q ≡ true → set q ≡ true)
         → New set c ⊎ HasForced set c
     falsified falses (inl found) = inl (found.0, (found.1.1, forced-by-falsity set c found.0 found.1.0 falses))
     falsified falses (inr all) = inr (λ l forced. all l forced.has)

@@ -1,8 +1,11 @@
 // Small bases against worked rows.
 ghost use Rattle.std.specs.Prelude.{◌≡◌, OnOk};
 
-use crate::tests::calls::{base_of, clauses_of, decide, forced_by, has_lits, learn, lit, settle};
-use crate::{Base, Propagated};
+use crate::Base;
+use crate::tests::calls::{
+    base_for, decide, forced_by, gives_words_back, has_ids, has_lits, has_trail, is_reason, learn,
+    neg, pos, propagate, settle,
+};
 use gr_logic::{Lit, Place};
 use std::alloc::Global;
 use std::test::Fail;
@@ -15,110 +18,125 @@ fn second_level(
     second: Lit,
     trail: &[Lit],
 ) -> Result<Option<Place>, Fail>
-    requires { base.old.trail.vars ≡ 6 }
-    ensures { OnOk result (base.new.trail.vars ≡ 6) }
+    requires { base.old.trail.vars ≡ 300 }
+    ensures { OnOk result (base.new.trail.vars ≡ 300) }
 {
-    let Propagated::Quiet = base.propagate()? else {
-        return Ok(None);
-    };
-    decide(base, first);
-    let Propagated::Quiet = base.propagate()? else {
-        return Ok(None);
-    };
-    if base.trail().lits() != trail {
+    if !decide(base, first)? || propagate(base)?.is_some() || !has_trail(base, trail) {
         return Ok(None);
     }
-    decide(base, second);
-    match base.propagate()? {
-        Propagated::Quiet => Ok(None),
-        Propagated::Conflict { place } => Ok(Some(place)),
+    if !decide(base, second)? {
+        return Ok(None);
     }
+    propagate(base)
 }
+
+/// Whether the second of two decisions ends in a conflict of one of the clauses of these ids, and the
+/// trail was this one before it.
+fn ends_at(
+    alloc: Global,
+    formula: &str,
+    first: Lit,
+    second: Lit,
+    trail: &[Lit],
+    ids: (u64, u64),
+) -> Result<bool, Fail> {
+    let mut base = base_for(alloc, formula)?;
+    let found = second_level(&mut base, first, second, trail)?;
+    Ok(found.is_some() && (base.find(ids.0) == found || base.find(ids.1) == found))
+}
+
+const TAUGHT: &str = "1 -2 0 1 2 3 4 0 1 2 3 -4 0";
+
+/// The first two clauses are in conflict at the second level too.
+const BINARY_CLAUSES_LAST: &str = "-1 -5 3 0 -1 -5 -3 0 -1 2 0 -1 -2 0";
 
 #[test]
 fn ends_in_a_conflict(rt: HostRuntime) -> Result<(), Fail> {
-    let clauses = clauses_of(rt.alloc(), "1 -2 0 1 2 3 4 0 1 2 3 -4 0")?;
-    let mut base = base_of(rt.alloc(), clauses.as_slice())?;
-    let trail = [lit(-1)?, lit(-2)?];
-    let place = second_level(&mut base, lit(-1)?, lit(-3)?, &trail)?.ok_or("no conflict")?;
-    assert!(rt; base.find(2) == Some(place) || base.find(3) == Some(place));
+    let trail = [neg(1), neg(2)];
+    assert!(rt; ends_at(rt.alloc(), TAUGHT, neg(1), neg(3), &trail, (2, 3))?);
+    let trail = [pos(5)];
+    assert!(rt;
+        ends_at(
+            rt.alloc(),
+            BINARY_CLAUSES_LAST,
+            pos(5),
+            pos(1),
+            &trail,
+            (3, 4)
+        )?,
+        "binary clauses come first"
+    );
     Ok(())
 }
 
-#[test]
-fn propagates_binary_clauses_first(rt: HostRuntime) -> Result<(), Fail> {
-    // At the second level the first two clauses are in conflict too.
-    let clauses = clauses_of(rt.alloc(), "-1 -5 3 0 -1 -5 -3 0 -1 2 0 -1 -2 0")?;
-    let mut base = base_of(rt.alloc(), clauses.as_slice())?;
-    let trail = [lit(5)?];
-    let place = second_level(&mut base, lit(5)?, lit(1)?, &trail)?.ok_or("no conflict")?;
-    assert!(rt; base.find(3) == Some(place) || base.find(4) == Some(place));
-    Ok(())
-}
-
-/// Goes back to the first level and adds what the conflict taught: the trail, where nothing is false then.
-fn trail_with_learnt(base: &mut Base, alloc: Global) -> Result<Vec<Lit>, Fail>
-    requires { base.old.trail.vars ≡ 6 }
+/// Goes back to the first level and adds the clause of two literals that a conflict taught, with the id 4:
+/// whether the first is forced by it.
+fn is_forced_by_learnt(
+    base: &mut Base,
+    alloc: Global,
+    first: Lit,
+    second: Lit,
+) -> Result<bool, Fail>
+    requires { base.old.trail.vars ≡ 300 }
+    ensures { OnOk result (base.new.trail.vars ≡ 300) }
 {
     if base.trail().depth() != 2 {
-        return Err(Fail::from("not at the second level"));
+        return Ok(false);
     }
     base.backtrack(1);
-    let place = learn(base, alloc, 4, lit(3)?, lit(1)?)?;
-    if forced_by(base.trail(), place) != Some(lit(3)?) {
-        return Err(Fail::from("nothing is forced"));
+    let place = learn(base, alloc, 4, first, second)?;
+    Ok(forced_by(base.trail(), place) == Some(first))
+}
+
+/// Whether the conflict at the second level teaches the clause `3 1`, which forces 3 at the first.
+fn goes_on_with_learnt(base: &mut Base, alloc: Global) -> Result<bool, Fail>
+    requires { base.old.trail.vars ≡ 300 }
+{
+    let trail = [neg(1), neg(2), pos(3)];
+    if second_level(base, neg(1), neg(3), &trail[..2])?.is_none() {
+        return Ok(false);
     }
-    let Propagated::Quiet = base.propagate()? else {
-        return Err(Fail::from("a conflict"));
-    };
-    Ok(Vec::from_slice(alloc, base.trail().lits())?)
+    if !is_forced_by_learnt(base, alloc, pos(3), pos(1))? || propagate(base)?.is_some() {
+        return Ok(false);
+    }
+    Ok(has_trail(base, &trail))
 }
 
 #[test]
 fn adds_what_a_conflict_taught(rt: HostRuntime) -> Result<(), Fail> {
-    let clauses = clauses_of(rt.alloc(), "1 -2 0 1 2 3 4 0 1 2 3 -4 0")?;
-    let mut base = base_of(rt.alloc(), clauses.as_slice())?;
-    let first = [lit(-1)?, lit(-2)?];
-    second_level(&mut base, lit(-1)?, lit(-3)?, &first)?.ok_or("no conflict")?;
-    let trail = trail_with_learnt(&mut base, rt.alloc())?;
-    assert_eq!(rt; trail.as_slice(), [lit(-1)?, lit(-2)?, lit(3)?].as_slice());
+    let mut base = base_for(rt.alloc(), TAUGHT)?;
+    assert!(rt; goes_on_with_learnt(&mut base, rt.alloc())?);
     Ok(())
 }
 
 /// Whether the clauses are `1`, `-1 2` and `2` with the ids 1, 2 and 3, and the last is the reason of 2.
-fn is_settled(base: &Base, one: Lit, two: Lit) -> Result<bool, Fail> {
-    let reason = base.find(3).ok_or("no clause has the id")?;
-    Ok(
-        forced_by(base.trail(), reason) == Some(two)
-            && base.ids()?.all() == [1, 2, 3].as_slice()
-            && has_lits(base, 1, &[one])
-            && (has_lits(base, 2, &[one.negate(), two]) || has_lits(base, 2, &[two, one.negate()]))
-            && has_lits(base, 3, &[two]),
-    )
+fn is_settled(base: &Base) -> Result<bool, Fail> {
+    let (one, two, binary) = ([pos(1)], [pos(2)], [neg(1), pos(2)]);
+    let turned = [pos(2), neg(1)];
+    let has_binary = has_lits(base, 2, &binary) || has_lits(base, 2, &turned);
+    let has_units = has_lits(base, 1, &one) && has_lits(base, 3, &two);
+    Ok(has_binary && has_units && is_reason(base, 3, pos(2)) && has_ids(base, &[1, 2, 3])?)
 }
 
 /// Propagates, settles 2 and moves the clauses: whether each does what it should.
-fn settles_and_moves(base: &mut Base, one: Lit, two: Lit) -> Result<bool, Fail>
-    requires { base.old.trail.vars ≡ 6 }
+fn settles_and_moves(base: &mut Base) -> Result<bool, Fail>
+    requires { base.old.trail.vars ≡ 300 }
 {
-    let Propagated::Quiet = base.propagate()? else {
-        return Ok(false);
-    };
-    if base.trail().lits() != [one, two].as_slice() {
+    let trail = [pos(1), pos(2)];
+    if propagate(base)?.is_some() || !has_trail(base, &trail) {
         return Ok(false);
     }
-    settle(base, two, 3)?;
-    if !is_settled(base, one, two)? {
+    settle(base, pos(2), 3)?;
+    if !is_settled(base)? {
         return Ok(false);
     }
-    base.compact()?;
-    is_settled(base, one, two)
+    gives_words_back(base)?;
+    is_settled(base)
 }
 
 #[test]
 fn settles_a_literal_and_moves_the_clauses(rt: HostRuntime) -> Result<(), Fail> {
-    let clauses = clauses_of(rt.alloc(), "1 0 -1 2 0")?;
-    let mut base = base_of(rt.alloc(), clauses.as_slice())?;
-    assert!(rt; settles_and_moves(&mut base, lit(1)?, lit(2)?)?);
+    let mut base = base_for(rt.alloc(), "1 0 -1 2 0")?;
+    assert!(rt; settles_and_moves(&mut base)?);
     Ok(())
 }

@@ -3,7 +3,7 @@ use Rattle.std.proofs.Common.{◌+◌, length, drop, sym, ap, ◌∙◌, arith}
 use Rattle.std.proofs.lemmas.List.{length-append}
 use Rattle.gr_arena.specs.Blocks.{blocks_in, flat, live, words_of}
 use Rattle.gr_arena.proofs.Runs.{size_is}
-use Rattle.gr_arena.proofs.Steps.{next, total, size_read, live_read}
+use Rattle.gr_arena.proofs.Steps.{next, total, whole, size_read, live_read}
 use Rattle.gr_arena.proofs.Relocating.{next_laid, live_counted, dead_counted, short}
 use Rattle.gr_arena.proofs.compaction.live_words.Goals as goal
 
@@ -17,12 +17,7 @@ pub overflow_add-next : goal.overflow_add-next
 overflow_add-next c =
     let n = next c.args.words.now c.loop-place.place c.loop-place.invariant.laid
     c.loop-place-test.true in
-    omega (
-      arith,
-      total n c.loop-place-test.true,
-      c.size_at.ensures
-          ∙ size_read n c.loop-place-test.true,
-    )
+    omega (arith, whole n c.loop-place-test.true c.size_at.result c.size_at.ensures)
 
 pub is_live-requires : goal.is_live-requires
 is_live-requires c =

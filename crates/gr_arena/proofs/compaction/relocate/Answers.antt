@@ -1,10 +1,9 @@
 -- each step copies the next block and writes it over, or passes it over
 use Rattle.std.proofs.Common.{◌≡◌, ◌+◌, ◌-◌, ◌++◌, length, take, drop, sym, ap, ◌∙◌, subst, arith, is_ok, if◌then◌else◌}
 use Rattle.std.proofs.lemmas.List.{length-append}
-use Rattle.gr_arena.specs.Arenas.{size}
 use Rattle.gr_arena.specs.Blocks.{blocks_in, flat, live, words_of}
-use Rattle.gr_arena.proofs.Steps.{next, total, size_read, live_read, block_words}
-use Rattle.gr_arena.proofs.Relocating.{Left, passed, copied_over, live_counted}
+use Rattle.gr_arena.proofs.Steps.{next, total, whole, size_read, live_read}
+use Rattle.gr_arena.proofs.Relocating.{Left, passed, copied_over, live_counted, block_copied}
 use Rattle.gr_arena.proofs.compaction.relocate.Goals as goal
 
 pub size_at-requires : goal.size_at-requires
@@ -17,12 +16,7 @@ pub overflow_add-next : goal.overflow_add-next
 overflow_add-next c =
     let n = next c.loop-place.words c.loop-place.place c.loop-place.invariant.left.laid
     c.loop-place-test.true in
-    omega (
-      arith,
-      total n c.loop-place-test.true,
-      c.size_at.ensures
-          ∙ size_read n c.loop-place-test.true,
-    )
+    omega (arith, whole n c.loop-place-test.true c.size_at.result c.size_at.ensures)
 
 pub is_live-requires : goal.is_live-requires
 is_live-requires c =
@@ -34,12 +28,7 @@ pub slice_bounds-extend_from_slice-end : goal.slice_bounds-extend_from_slice-end
 slice_bounds-extend_from_slice-end c =
     let n = next c.loop-place.words c.loop-place.place c.loop-place.invariant.left.laid
     c.loop-place-test.true in
-    omega (
-      arith,
-      total n c.loop-place-test.true,
-      c.size_at.ensures
-          ∙ size_read n c.loop-place-test.true,
-    )
+    omega (arith, whole n c.loop-place-test.true c.size_at.result c.size_at.ensures)
 
 pub unwrap-requires : goal.unwrap-requires
 unwrap-requires c =
@@ -49,10 +38,7 @@ unwrap-requires c =
     ∙ size_read n c.loop-place-test.true) in
     let e = sym (live_read n c.loop-place-test.true) ∙ sym c.is_live.ensures ∙ c.if-is_live.true in
     let to = c.loop-place.place + c.size_at.result in
-    let piece : take (to - c.loop-place.place) (drop c.loop-place.place c.loop-place.words)
-    ≡ words_of n.block =
-    ap (λ k. take k (drop c.loop-place.place c.loop-place.words)) {y =
-    size n.block.stored} (omega (arith, at)) ∙ block_words n c.loop-place-test.true in
+    let piece = block_copied n c.loop-place-test.true to at in
     c.extend_from_slice.ensures.succeeds
     (omega (
       arith,
@@ -74,10 +60,7 @@ loop-place-preserved-then-is_live c =
     ∙ size_read n c.loop-place-test.true) in
     let e = sym (live_read n c.loop-place-test.true) ∙ sym c.is_live.ensures ∙ c.if-is_live.true in
     let to = c.loop-place.place + c.size_at.result in
-    let piece : take (to - c.loop-place.place) (drop c.loop-place.place c.loop-place.words)
-    ≡ words_of n.block =
-    ap (λ k. take k (drop c.loop-place.place c.loop-place.words)) {y =
-    size n.block.stored} (omega (arith, at)) ∙ block_words n c.loop-place-test.true in
+    let piece = block_copied n c.loop-place-test.true to at in
     let count : c.len-to.result ≡ length c.loop-place.kept.items =
     omega (arith, c.len-to.ensures) in
     let more : c.extend_from_slice.new.self.items ≡ c.loop-place.kept.items ++ words_of n.block =

@@ -1,5 +1,5 @@
 -- what was let go by its last holder leaves
-use Rattle.std.proofs.Common.{[], ◌∷◌, ◌++◌, ◌∙◌, ap, sym, subst}
+use Rattle.std.proofs.Common.{◌∙◌, ap, sym, subst}
 use Rattle.gr_diary.specs.declared.entries.Entry.TheVariants.{Forget}
 use Rattle.gr_bench.specs.Lone.{is_lone}
 use Rattle.gr_bench.specs.Tables.{table_of, forgotten_by, HoldsEach}

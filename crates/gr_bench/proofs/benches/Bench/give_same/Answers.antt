@@ -1,5 +1,5 @@
 -- the reducer has taken nothing then
-use Rattle.std.proofs.Common.{[], ◌∷◌, ◌++◌, ◌∙◌, ap}
+use Rattle.std.proofs.Common.{◌∙◌}
 use Rattle.gr_diary.specs.declared.entries.Entry.TheVariants.{Return}
 use Rattle.gr_logic.specs.declared.items.Strengthened.TheVariants.{Same}
 use Rattle.gr_bench.specs.Tables.{table_of}

@@ -1,5 +1,5 @@
 -- the shorter clause is a result, and the reducer lets the taken one go
-use Rattle.std.proofs.Common.{[], ◌∷◌, ◌++◌, ◌∙◌, ap, sym, subst, refl, None, filter, option_to_list}
+use Rattle.std.proofs.Common.{◌∙◌, ap, sym, subst, refl, None, filter, option_to_list}
 use Rattle.gr_logic.specs.declared.items.Strengthened.TheVariants.{Shorter}
 use Rattle.gr_diary.specs.declared.entries.Entry.TheVariants.{Return}
 use Rattle.gr_bench.specs.Lone.{is_lone}

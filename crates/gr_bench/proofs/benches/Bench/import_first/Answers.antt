@@ -1,5 +1,5 @@
 -- the first result goes to the searching thread, and what it stands for is let go
-use Rattle.std.proofs.Common.{◌≡◌, [], ◌∷◌, ◌++◌, ◌∙◌, ap, sym, subst, filter, option_to_list}
+use Rattle.std.proofs.Common.{◌≡◌, ◌∙◌, ap, sym, subst, filter, option_to_list}
 use Rattle.gr_diary.specs.declared.entries.Entry.TheVariants.{Import}
 use Rattle.gr_bench.specs.Lone.{is_lone}
 use Rattle.gr_bench.specs.Tables.{Table, table_of, held_old, held_old_of, forgotten_by, HoldsEach}

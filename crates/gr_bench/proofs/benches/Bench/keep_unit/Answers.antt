@@ -1,5 +1,5 @@
 -- the unit clause is held by the searching thread
-use Rattle.std.proofs.Common.{[], ◌∷◌, ◌++◌, ◌∙◌, ap}
+use Rattle.std.proofs.Common.{◌∙◌}
 use Rattle.gr_diary.specs.declared.entries.Entry.TheVariants as entry
 use Rattle.gr_bench.specs.Tables.{table_of}
 use Rattle.gr_bench.proofs.Pushed.{grown, behind, behind-as}

@@ -1,5 +1,5 @@
 -- the learnt clause is on offer, and what it drives out is not
-use Rattle.std.proofs.Common.{[], ◌∷◌, ◌++◌, ◌∙◌, ap, true, length, filter, arith, ◌<◌, ◌≡◌, ◌^◌, List}
+use Rattle.std.proofs.Common.{◌∙◌, ap, true, length, filter, arith, ◌<◌, ◌≡◌, ◌^◌, List}
 use Rattle.gr_logic.specs.Literals.{Literal}
 use Rattle.gr_diary.specs.declared.entries.Entry.TheVariants.{Learn}
 use Rattle.gr_bench.specs.Lone.{is_lone}

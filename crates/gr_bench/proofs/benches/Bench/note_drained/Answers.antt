@@ -1,5 +1,5 @@
 -- nothing changes but the history
-use Rattle.std.proofs.Common.{[], ◌∷◌, ◌++◌, ◌∙◌, ap, refl}
+use Rattle.std.proofs.Common.{◌∙◌, refl}
 use Rattle.gr_diary.specs.declared.entries.Entry.TheVariants.{Drained}
 use Rattle.gr_bench.specs.Tables.{table_of}
 use Rattle.gr_bench.proofs.Pushed.{grown, behind, behind-as}

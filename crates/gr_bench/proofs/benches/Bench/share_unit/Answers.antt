@@ -1,5 +1,5 @@
 -- the unit clause is a result, held by its reducer
-use Rattle.std.proofs.Common.{[], ◌∷◌, ◌++◌, ◌∙◌, ap, refl, None}
+use Rattle.std.proofs.Common.{◌∙◌, refl, None}
 use Rattle.gr_diary.specs.declared.entries.Entry.TheVariants as entry
 use Rattle.gr_bench.specs.Tables.{table_of}
 use Rattle.gr_bench.proofs.Pushed.{grown, behind, behind-as}

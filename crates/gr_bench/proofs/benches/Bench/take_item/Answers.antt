@@ -1,5 +1,5 @@
 -- the best item goes from the work list to the reducer
-use Rattle.std.proofs.Common.{[], ◌∷◌, ◌++◌, ◌∙◌, ap}
+use Rattle.std.proofs.Common.{◌∙◌}
 use Rattle.gr_diary.specs.declared.entries.Entry.TheVariants.{Take}
 use Rattle.gr_bench.specs.Tables.{table_of}
 use Rattle.gr_bench.proofs.Pushed.{grown, behind, behind-as}

@@ -37,8 +37,8 @@ invariant_of-self-in-Err c =
     let g = (goal.at.invariant_of-self-in-Err c).After-arrange in
     let back = ap (λ x. x.clauses) c.remove.ensures ∙ taken g in (
       kept-same s.arena.clauses c.remove.new.self.clauses s.trail s.watches s.watches s.places c.insert.new.self s.head
-          s.broken.items c.reserve.new.self.items s.quiet s.conflict back refl c.in-Err.ensures.err c.reserve.ensures.items
-          c.self.invariant.0,
+          s.broken.items c.reserve.new.self.items s.quiet s.conflict back refl c.in-Err.ensures.err
+          c.reserve.ensures.items c.self.invariant.0,
       pairs-back _ c.remove.new.self.clauses s.pairs s.pairs _ back refl c.self.invariant.1,
     )
 

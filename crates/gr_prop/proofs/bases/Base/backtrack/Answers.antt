@@ -46,7 +46,8 @@ invariant_of-self-2 c =
           (subst (λ t. IsReady s.arena.clauses t s.watches (length
           (up_to c.args.level s.trail.assigned)) s.broken.items)
           (sym c.backtrack.ensures)
-          (ready-back s.arena.clauses s.trail s.watches s.head c.args.level s.broken.items c.self.invariant.0.ready low)))
+          (ready-back s.arena.clauses s.trail s.watches s.head c.args.level s.broken.items c.self.invariant.0.ready
+          low)))
           c.self.invariant.0.indexed refl refl,
       subst (λ (t : TrailState). ArePaired s.arena.clauses t.vars s.pairs) (sym c.backtrack.ensures) c.self.invariant.1,
     )

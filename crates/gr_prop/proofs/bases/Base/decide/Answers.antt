@@ -16,8 +16,8 @@ invariant_of-self c =
     c.requires.unassigned in (
       kept-open s.arena.clauses c.decide.new.self s.watches s.places s.head s.broken.items false None
           (subst (λ t. IsReady s.arena.clauses t s.watches s.head s.broken.items) (sym c.decide.ensures)
-          (ready-decided s.arena.clauses s.trail s.watches s.head s.broken.items c.args.lit c.self.invariant.0.ready done.0
-          done.1 low free))
+          (ready-decided s.arena.clauses s.trail s.watches s.head s.broken.items c.args.lit c.self.invariant.0.ready
+          done.0 done.1 low free))
           c.self.invariant.0.indexed refl refl,
       subst (λ (t : TrailState). ArePaired s.arena.clauses t.vars s.pairs) (sym c.decide.ensures) c.self.invariant.1,
     )

@@ -57,8 +57,8 @@ invariant_of-self c =
           c.remove.new.self (c.remove.ensures ∙ ap (finite.remove s.places) c.id.ensures)
           c.forget.new.places.items c.forget.ensures),
       subst (λ k. ArePaired k s.trail.vars c.unwatch.new.pairs) (sym (ap (λ a. a.clauses) c.remove-2.ensures))
-          (paired-removed s.arena.clauses s.trail s.watches s.places s.head s.broken.items s.quiet s.conflict c.args.place
-          c.self.invariant.0 there free s.pairs c.self.invariant.1 c.unwatch.new.pairs
+          (paired-removed s.arena.clauses s.trail s.watches s.places s.head s.broken.items s.quiet s.conflict
+          c.args.place c.self.invariant.0 there free s.pairs c.self.invariant.1 c.unwatch.new.pairs
           (c.unwatch.ensures.pairs ∙ ap (λ ls. unwatching s.pairs c.args.place (paired ls)) c.lits-lits.ensures)),
     )
 

@@ -51,8 +51,9 @@ invariant_of-self-2 c =
           c.var.ensures.number) c.in_default.ensures.ok,
       subst (λ (t : TrailState). ArePaired c.add.new.self.clauses t.vars s.pairs) (sym c.set_reason.ensures)
           (subst (λ k. ArePaired k s.trail.vars s.pairs) (sym c.in_ok-place.ensures.clauses)
-          (paired-settled s.arena.clauses s.trail s.watches s.places s.head s.broken.items s.quiet s.conflict p c.args.lit
-          c.args.id c.self.invariant.0 c.in_ok-place.ensures.fresh ground holds known unused s.pairs c.self.invariant.1)),
+          (paired-settled s.arena.clauses s.trail s.watches s.places s.head s.broken.items s.quiet s.conflict p
+          c.args.lit c.args.id c.self.invariant.0 c.in_ok-place.ensures.fresh ground holds known unused s.pairs
+          c.self.invariant.1)),
     )
 
 pub returns : goal.returns

@@ -6,14 +6,15 @@ use Rattle.gr_prop.proofs.tests.calls.are_known.Goals as goal
 
 pub loop-index-preserved : goal.loop-index-preserved
 loop-index-preserved c =
-    let low : c.index-lits-index.result.index < 6 = subst (λ n. n < 6) c.index.ensures.index c.if-index-ge6.false in
+    let low : c.index-lits-index.result.index < 300 =
+    subst (λ n. n < 300) c.index.ensures.index c.if-index-ge300.false in
     record {
       within = omega arith;
-      known = All-more (λ (q : Literal). q.index < 6) c.args.lits.now c.loop-index.index c.index-lits-index.result
+      known = All-more (λ (q : Literal). q.index < 300) c.args.lits.now c.loop-index.index c.index-lits-index.result
           c.loop-index-test.true
-          c.loop-index.invariant.known (subst (λ (q : Literal). q.index < 6) c.index-lits-index.is low);
+          c.loop-index.invariant.known (subst (λ (q : Literal). q.index < 300) c.index-lits-index.is low);
     }
 
 pub returns : goal.returns
-returns c = λ _. subst (All (λ (q : Literal). q.index < 6)) (take_all c.loop-index.index c.args.lits.now
+returns c = λ _. subst (All (λ (q : Literal). q.index < 300)) (take_all c.loop-index.index c.args.lits.now
     c.loop-index-test.false) c.loop-index.invariant.known

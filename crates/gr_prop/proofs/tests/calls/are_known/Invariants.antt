@@ -4,7 +4,7 @@ use Rattle.gr_prop.proofs.tests.calls.are_known.Given as goal
 abbrev pub invariant-loop-index : goal.invariant-loop-index
 invariant-loop-index l = record {
   within : l.index ≤ length l.lits;
-  known : All (λ q. q.index < 6) (take l.index l.lits);
+  known : All (λ q. q.index < 300) (take l.index l.lits);
 }
 
 abbrev pub decreases-loop-index : goal.decreases-loop-index

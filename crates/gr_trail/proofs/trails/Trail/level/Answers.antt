@@ -9,11 +9,8 @@ pub overflow_sub-var : goal.overflow_sub-var
 overflow_sub-var c = var_is c.self.invariant c.self.view_is c.args.var c.requires
 
 pub index-requires : goal.index-requires
-index-requires c = omega (
-  arith,
-  index_in_range c.self.invariant c.self.view_is c.args.var
-      c.requires,
-)
+index-requires c =
+    let known = index_in_range c.self.invariant c.self.view_is c.args.var c.requires in omega (arith, known)
 
 pub returns : goal.returns
 returns c = ap (option_map (λ (a : Assigned). a.level))
