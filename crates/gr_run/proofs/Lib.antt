@@ -1,0 +1,14 @@
+pub mod Sets
+pub mod Others
+pub mod Holding
+pub mod Parts
+pub mod Asking
+pub mod Telling
+pub mod Stepping
+pub mod Beginning
+pub mod Ending
+pub mod Answering
+pub mod OwnExchange
+pub mod Reports
+pub mod Filtering
+pub mod Budgets
