@@ -1,0 +1,11 @@
+pub mod Families
+pub mod Outcomes
+pub mod Strengtheners
+pub mod Graphs
+pub mod Reaching
+pub mod Reached
+pub mod Walking
+pub mod Holding
+pub mod LettingGo
+pub mod Loading
+pub mod Unsettled
