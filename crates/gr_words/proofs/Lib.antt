@@ -1,0 +1,5 @@
+pub mod RuleTests
+pub mod Entries
+pub mod OptionReads
+pub mod Naming
+pub mod Cases
