@@ -116,7 +116,8 @@ module _ (P : ℕ → Type 0) (arena : ArenaState) (marked : List ℕ) where
   ids-have [] all k a e m = absurd (cc)
   ids-have (x ∷ xs) all zero a e m =
       let is : x ≡ a = some-is x a e in
-      let mark : is_marked marked (var_of x.lit) ≡ true = ap (λ (y : Assigned). is_marked marked (var_of y.lit)) is ∙ m in
+      let mark : is_marked marked (var_of x.lit) ≡ true =
+      ap (λ (y : Assigned). is_marked marked (var_of y.lit)) is ∙ m in
       subst (λ (y : Assigned). P (reason_id arena y.reason)) is (All-head P (reason_id arena x.reason)
       (reason_ids arena marked xs)
       (subst (λ b. All P (map (λ (y : Assigned). reason_id arena y.reason)
@@ -156,7 +157,8 @@ all-last P (x ∷ xs) y all = all-last P xs y (All-tail P x (xs ++ y ∷ []) all
 
 -- the family has the clauses under their ids
 abbrev pub CitesAll : ClauseFamily → Clauses → Type 0
-CitesAll k clauses = (place : ℕ) (c : BaseClause) → finite.get clauses place ≡ Some c → k c.id ≡ Some (set.contains c.literals)
+CitesAll k clauses = (place : ℕ) (c : BaseClause) → finite.get clauses place ≡ Some c
+    → k c.id ≡ Some (set.contains c.literals)
 
 pub cites-at : (k : ClauseFamily) (clauses : Clauses) (arena : ArenaState) (place : Place) → CitesAll k clauses
     → clauses_in arena.clauses ≡ clauses → Has arena place → k (at arena place).id ≡ Some (literals_at arena place)
@@ -175,20 +177,21 @@ pub justified : (k : ClauseFamily) (clauses : Clauses) (arena : ArenaState) (t :
     → hints ≡ reason_ids arena r.forced t.assigned ++ last ∷ [] → k last ≡ Some (members source)
     → ((q : Literal) → members source q ≡ true → IsFalse t.assigned q ⊎ (true_in t.assigned q ≡ true))
     → (vars : ℕ) → IsNormal c → VarsUpTo vars c → IsJustified k vars c hints
-justified k clauses arena t source r c last hints cites same g is fal lead gathered named values vars normal known = record {
-  normal = normal;
-  known = known;
-  cited = subst (All (λ id. IsSome (k id))) (sym gathered)
-      (All-append (λ id. IsSome (k id)) (reason_ids arena r.forced t.assigned) (last ∷ [])
-      (ids-all (λ id. IsSome (k id)) arena r.forced t.assigned some-id)
-      (All-cons (λ id. IsSome (k id)) last [] (subst IsSome (sym named) refl) (All-nil (λ id. IsSome (k id)))));
-  accepted = λ live all.
-      ap (rup live c) gathered
-      ∙ accepted arena t source r (negated c) g is fal live last lead
-      (cited-by live (subst (All (λ id. family_of live id ≡ k id)) gathered all))
-      (all-last (λ id. family_of live id ≡ k id) (reason_ids arena r.forced t.assigned) last
-      (subst (All (λ id. family_of live id ≡ k id)) gathered all) ∙ named) values;
-}
+justified k clauses arena t source r c last hints cites same g is fal lead
+    gathered named values vars normal known = record {
+      normal = normal;
+      known = known;
+      cited = subst (All (λ id. IsSome (k id))) (sym gathered)
+          (All-append (λ id. IsSome (k id)) (reason_ids arena r.forced t.assigned) (last ∷ [])
+          (ids-all (λ id. IsSome (k id)) arena r.forced t.assigned some-id)
+          (All-cons (λ id. IsSome (k id)) last [] (subst IsSome (sym named) refl) (All-nil (λ id. IsSome (k id)))));
+      accepted = λ live all.
+          ap (rup live c) gathered
+          ∙ accepted arena t source r (negated c) g is fal live last lead
+          (cited-by live (subst (All (λ id. family_of live id ≡ k id)) gathered all))
+          (all-last (λ id. family_of live id ≡ k id) (reason_ids arena r.forced t.assigned) last
+          (subst (All (λ id. family_of live id ≡ k id)) gathered all) ∙ named) values;
+    }
   where
     reason-at : (n : ℕ) (a : Assigned) → slice_get t.assigned n ≡ Some a → is_marked r.forced (var_of a.lit) ≡ true
         → (place : Place) × (a.reason ≡ Some place) × Has arena place

@@ -55,7 +55,8 @@ represents f clauses h = record {
       (λ high. inl (kept id c (sym (cited-high f (clauses_above (length f.clauses) clauses) id high) ∙ e)));
 }
   where
-    kept : (id : ℕ) (c : LiteralSet) → option_map set.contains (finite.get (clauses_above (length f.clauses) clauses) id)
+    kept : (id : ℕ) (c : LiteralSet) → option_map set.contains
+        (finite.get (clauses_above (length f.clauses) clauses) id)
         ≡ Some c → (place : ℕ) × (family clauses place ≡ Some c)
     kept id c e =
         let m = mapped-set set.contains (finite.get (clauses_above (length f.clauses) clauses) id) c e in

@@ -31,7 +31,8 @@ module _ (b : BaseState) (arena : ArenaState) (kept clause : List Literal) (plac
 
 pub stopped-outcome : (b : BaseState) (arena : ArenaState) (id : ℕ) (clause kept : List Literal) (place : Place)
     (source : List Literal) (last : ℕ) (result : Result Strengthened OutOfMemory)
-    → clauses_in arena.clauses ≡ b.clauses → Has arena place → source ≡ (at arena place).lits → last ≡ (at arena place).id
+    → clauses_in arena.clauses ≡ b.clauses → Has arena place → source ≡ (at arena place).lits
+    → last ≡ (at arena place).id
     → ((k : ClauseFamily) → Represents k b.clauses → GreedyKeeps k clause kept)
     → IfOk result (λ outcome. (k : ClauseFamily) (id : ℕ) → Represents k b.clauses → k id ≡ None
     → with_taken k id clause last ≡ Some (members source) → GreedyKeeps k clause kept

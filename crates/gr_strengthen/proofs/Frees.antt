@@ -84,7 +84,8 @@ unneeded b arena t place lits base trail is same normal there told long none = r
         ap (λ s. s a.lit) (some-set (members lits) f.clause (sym stored ∙ f.there)) ∙ f.has in
         let stood : slice_get t.assigned k ≡ Some a = ap (λ (u : TrailState). slice_get u.assigned k) is ∙ stands in
         let yes' : forces t.assigned place a.lit ≡ true =
-        ap (λ b. b && is_reason place (reason_of (assigned_to t.assigned (var_of a.lit)))) (at-true t.assigned k a stood)
+        ap (λ b. b && is_reason place (reason_of (assigned_to t.assigned (var_of a.lit))))
+        (at-true t.assigned k a stood)
         ∙ ap (λ o. is_reason place (reason_of o)) (assigned-at t k a trail stood) ∙ ap (is_reason place) by
         ∙ (grind (arith, nat_tests)) in
         let any = any-member (forces t.assigned place) lits a.lit m yes' in

@@ -87,13 +87,15 @@ reasoned-from arena before (x ∷ xs) founded =
         (s.0, subst (λ c. Forces before c x.lit) (sym s.1) f.1.1)
 
 stored : (arena : ArenaState) (place : Place) (P : List Literal → Type 0)
-    → ((p : ℕ) (s : Stored) → finite.get arena.clauses p ≡ Some s → P s.lits) → Has arena place → P (at arena place).lits
+    → ((p : ℕ) (s : Stored) → finite.get arena.clauses p ≡ Some s → P s.lits)
+    → Has arena place → P (at arena place).lits
 stored arena place P all has = all place.0 (at arena place) (some-is arena.clauses place.0 has)
 
 pub base-graph : (b : BaseState) (arena : ArenaState) (t : TrailState) → IsBase b → clauses_in arena.clauses ≡ b.clauses
     → t ≡ b.trail → IsTrail t
     → ((p : ℕ) (s : Stored) → finite.get arena.clauses p ≡ Some s → IsNormal s.lits)
-    → ((p : ℕ) (s : Stored) → finite.get arena.clauses p ≡ Some s → All (λ (l : Literal). l.index < b.trail.vars) s.lits)
+    → ((p : ℕ) (s : Stored) → finite.get arena.clauses p ≡ Some s
+    → All (λ (l : Literal). l.index < b.trail.vars) s.lits)
     → IsGraph arena t
 base-graph b arena t base same' is trail normal known = subst (IsGraph arena) (sym is) (record {
   trail = subst IsTrail is trail;

@@ -29,7 +29,8 @@ family-insert clauses place p x c fresh e =
     by-eq (family (finite.insert clauses place x) p ≡ Some c) p place
     (λ same. absurd (let f : None ≡ Some c = sym (ap (option_map (λ (y : BaseClause). set.contains y.literals))
     (ap (finite.get clauses) same ∙ fresh)) ∙ e in cc))
-    (λ apart. ap (option_map (λ (y : BaseClause). set.contains y.literals)) (get-insert-other clauses place x p apart) ∙ e)
+    (λ apart. ap (option_map (λ (y : BaseClause). set.contains y.literals))
+    (get-insert-other clauses place x p apart) ∙ e)
 
 pub family-here : (clauses : Clauses) (place id lbd : ℕ) (c : List Literal)
     → family (finite.insert clauses place (record { id = id; lbd = lbd; literals = set.from_list c })) place
@@ -104,7 +105,8 @@ value-cases xs l = go (true_in xs l) refl (true_in xs (negation l)) refl
         → (value_in xs l ≡ None) ⊎ (true_in xs l ≡ true) ⊎ IsFalse xs l
     go true e b f = inr (inl e)
     go false e true f = inr (inr f)
-    go false e false f = inl (ap (λ t. if t then Some true else (if true_in xs (negation l) then Some false else None)) e
+    go false e false f = inl (ap (λ t. if t then Some true else
+        (if true_in xs (negation l) then Some false else None)) e
         ∙ ap (λ t. if t then Some false else None) f)
 
 module _ (f : Cnf) (old new : BaseState) (id lbd : ℕ) (c : List Literal) (place : Place) (settled : ℕ)
@@ -128,7 +130,8 @@ module _ (f : Cnf) (old new : BaseState) (id lbd : ℕ) (c : List Literal) (plac
   elsewhere : (p : ℕ) (l : Literal) → p ≢ place.0 → family grown-clauses p ≡ Some (members (l ∷ []))
       → family old.clauses p ≡ Some (members (l ∷ []))
   elsewhere p l apart e =
-      sym (ap (option_map (λ (y : BaseClause). set.contains y.literals)) (get-insert-other old.clauses place.0 _ p apart)) ∙ e
+      sym (ap (option_map (λ (y : BaseClause). set.contains y.literals))
+      (get-insert-other old.clauses place.0 _ p apart)) ∙ e
 
   here : (l : Literal) → family grown-clauses place.0 ≡ Some (members (l ∷ [])) → c ≡ l ∷ []
   here l e = one-of c l normal (some-set (members c) (members (l ∷ []))

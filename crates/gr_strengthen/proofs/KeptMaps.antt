@@ -91,7 +91,8 @@ module _ (last : ℕ) (clauses : Clauses) where
                   → finite.find nat_cmp c.id (filter_map named ps) ≡ Some c.literals
               later false apart m = rest m
               later true tied m =
-                  absurd (let is : d ≡ c = some-is d c (sym there ∙ ap (finite.get clauses) (sym (tied-is p x tied)) ∙ at) in
+                  absurd (let is : d ≡ c = some-is d c (sym there
+                  ∙ ap (finite.get clauses) (sym (tied-is p x tied)) ∙ at) in
                   let i : d.id ≡ c.id = ap (λ (y : BaseClause). y.id) is in
                   let l : nat_lt last d.id ≡ true = grind (arith, nat_tests, high, i) in cc)
           pick true high' true e =
@@ -106,12 +107,14 @@ module _ (last : ℕ) (clauses : Clauses) where
                   → finite.find nat_cmp c.id (filter_map named ps) ≡ Some c.literals
               later false apart m = rest m
               later true tied m =
-                  absurd (let is : d ≡ c = some-is d c (sym there ∙ ap (finite.get clauses) (sym (tied-is p x tied)) ∙ at) in
+                  absurd (let is : d ≡ c = some-is d c (sym there
+                  ∙ ap (finite.get clauses) (sym (tied-is p x tied)) ∙ at) in
                   let t : eq_by_cmp nat_cmp c.id d.id ≡ true =
                   ap (λ (y : BaseClause). eq_by_cmp nat_cmp c.id y.id) is ∙ tied-itself c.id in cc)
 
   -- what is kept under an id is a clause of the base
-  pub above-some : (id : ℕ) (s : FiniteSet) → finite.get (clauses_above last clauses) id ≡ Some s → Named last clauses id s
+  pub above-some : (id : ℕ) (s : FiniteSet) → finite.get (clauses_above last clauses) id ≡ Some s
+      → Named last clauses id s
   above-some id s e = find-named (finite.keys clauses) id s
       (sym (finite.get-from_entries nat_cmp_total (filter_map named (finite.keys clauses)) id) ∙ e)
 
@@ -189,7 +192,8 @@ above-insert last clauses p c unique lacks fresh high =
         ∙ above-get last clauses n.place n.clause unique at
         (let a = n.above in let h = n.has in omega (arith, a, h)) ∙ ap Some n.literals)
 
-    other : (id : ℕ) (s : FiniteSet) → finite.get (finite.insert (clauses_above last clauses) c.id c.literals) id ≡ Some s
+    other : (id : ℕ) (s : FiniteSet)
+        → finite.get (finite.insert (clauses_above last clauses) c.id c.literals) id ≡ Some s
         → finite.get (clauses_above last (finite.insert clauses p c)) id ≡ Some s
     other id s e =
         by-eq (finite.get (clauses_above last (finite.insert clauses p c)) id ≡ Some s) id c.id
@@ -199,9 +203,11 @@ above-insert last clauses p c unique lacks fresh high =
         ∙ sym (get-insert-same (clauses_above last clauses) c.id c.literals)
         ∙ ap (finite.get (finite.insert (clauses_above last clauses) c.id c.literals)) (sym i) ∙ e)
         (λ apart.
-        let n = above-some last clauses id s (sym (get-insert-other (clauses_above last clauses) c.id c.literals id apart)
+        let n = above-some last clauses id s
+        (sym (get-insert-other (clauses_above last clauses) c.id c.literals id apart)
         ∙ e) in
-        let off : n.place ≢ p = λ same. (let f : Some n.clause ≡ None = sym n.there ∙ ap (finite.get clauses) same ∙ fresh
+        let off : n.place ≢ p = λ same. (let f : Some n.clause ≡ None = sym n.there
+        ∙ ap (finite.get clauses) same ∙ fresh
         in cc) in
         ap (finite.get (clauses_above last (finite.insert clauses p c))) (sym n.has)
         ∙ above-get last (finite.insert clauses p c) n.place n.clause after
@@ -222,7 +228,8 @@ pub remove-there : (clauses : Clauses) (p q : ℕ) (x : BaseClause) → finite.g
     → finite.get clauses q ≡ Some x
 remove-there clauses p q x at =
     by-eq (finite.get clauses q ≡ Some x) q p
-    (λ e. absurd (let f : Some x ≡ None = sym at ∙ ap (finite.get (finite.remove clauses p)) e ∙ get-remove-same clauses p
+    (λ e. absurd (let f : Some x ≡ None = sym at ∙ ap (finite.get (finite.remove clauses p)) e
+    ∙ get-remove-same clauses p
     in cc))
     (λ e. sym (get-remove-other clauses p q e) ∙ at)
 
@@ -234,7 +241,8 @@ pub above-remove : (last : ℕ) (clauses : Clauses) (p : ℕ) (c : BaseClause) �
     → finite.get clauses p ≡ Some c
     → clauses_above last (finite.remove clauses p) ≡ finite.remove (clauses_above last clauses) c.id
 above-remove last clauses p c unique at =
-    same-entries (clauses_above last (finite.remove clauses p)) (finite.remove (clauses_above last clauses) c.id) one other
+    same-entries (clauses_above last (finite.remove clauses p))
+    (finite.remove (clauses_above last clauses) c.id) one other
   where
     one : (id : ℕ) (s : FiniteSet) → finite.get (clauses_above last (finite.remove clauses p)) id ≡ Some s
         → finite.get (finite.remove (clauses_above last clauses) c.id) id ≡ Some s
@@ -297,7 +305,8 @@ module _ (old new : BaseState) (moved : IsCompacted old new) where
       let p : a.0 ≡ b.0 = unique a.0 b.0 c d a.1.1 b.1.1 same in
       some-is q r (sym a.1.0 ∙ ap (finite.get moved.moves) p ∙ b.1.0)
 
-  pub above-moved : (last : ℕ) → HasUniqueIds old.clauses → clauses_above last new.clauses ≡ clauses_above last old.clauses
+  pub above-moved : (last : ℕ) → HasUniqueIds old.clauses
+      → clauses_above last new.clauses ≡ clauses_above last old.clauses
   above-moved last unique = same-entries (clauses_above last new.clauses) (clauses_above last old.clauses)
       (λ id s e.
       let n = above-some last new.clauses id s e in

@@ -10,6 +10,7 @@ mod Shortened
 mod Concluded
 mod UnitFacts
 mod KeptMaps
+mod Unkept
 mod Cited
 mod Grounded
 mod Regrounded

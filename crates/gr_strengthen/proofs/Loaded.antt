@@ -149,12 +149,14 @@ loaded-tautology f b i ls at taut h = record {
   low = λ p c at. let l = h.low p c at in omega (arith, l);
 }
 
-pub loaded-entered : (f : Cnf) (old new : BaseState) (i : ℕ) (ls firsts : List Literal) → slice_get f.clauses i ≡ Some ls
+pub loaded-entered : (f : Cnf) (old new : BaseState) (i : ℕ) (ls firsts : List Literal)
+    → slice_get f.clauses i ≡ Some ls
     → members firsts ≡ members ls → IsEntered old new (i + 1) firsts → IsLoaded f old i → IsLoaded f new (i + 1)
 loaded-entered f old new i ls firsts at same entered h =
     subst (λ k. IsLoaded f (record new { clauses = k }) (i + 1)) (sym entered.clauses) (record {
       formula = record {
-        given = λ p c there low. by-eq (family_of (given_clause f) c.id ≡ Some (set.contains c.literals)) p entered.place
+        given = λ p c there low. by-eq (family_of (given_clause f) c.id ≡ Some (set.contains c.literals))
+            p entered.place
             (λ is. given-now c (some-is x c (sym (get-insert-same old.clauses entered.place x)
             ∙ ap (finite.get (finite.insert old.clauses entered.place x)) (sym is) ∙ there)))
             (λ apart. h.formula.given p c (sym (get-insert-other old.clauses entered.place x p apart) ∙ there) low);
@@ -199,7 +201,8 @@ loaded-entered f old new i ls firsts at same entered h =
       (
         has.1.0,
         by-eq (finite.get (finite.insert old.clauses entered.place x) has.0.0 ≡ Some has.1.0) has.0.0 entered.place
-            (λ is. absurd (let e : Some has.1.0 ≡ None = sym has.1.1 ∙ ap (finite.get old.clauses) is ∙ entered.fresh in cc))
+            (λ is. absurd (let e : Some has.1.0 ≡ None = sym has.1.1 ∙ ap (finite.get old.clauses) is
+            ∙ entered.fresh in cc))
             (λ apart. get-insert-other old.clauses entered.place x has.0.0 apart ∙ has.1.1),
         has.1.2,
       ),
@@ -221,7 +224,8 @@ entered-settled old new id l c place is trail one holds = record {
   lbd = 1;
   fresh = is.fresh;
   clauses = ap (λ (b : BaseState). b.clauses) is.changed
-      ∙ ap (λ ls. finite.insert old.clauses place.0 (record { id = id; lbd = 1; literals = set.from_list ls })) (sym one);
+      ∙ ap (λ ls. finite.insert old.clauses place.0 (record { id = id; lbd = 1; literals = set.from_list ls }))
+      (sym one);
   grounded = λ f settled g. subst (λ (b : BaseState). IsGrounded f b.clauses b.trail settled) (sym is.changed)
       (settle-grounded f old id l place settled is.fresh trail holds g);
 }

@@ -117,7 +117,8 @@ pub conflict-units : (f : Cnf) (b : BaseState) (place : Place) (settled : ℕ) �
 conflict-units f b place settled formula g ends =
     inl (subst (DerivesConflict (cited_family f (clauses_above (length f.clauses) b.clauses)))
     (none-given b.trail g.low)
-    (conflict-too (cited_family f (clauses_above (length f.clauses) b.clauses)) b.clauses (represents f b.clauses formula)
+    (conflict-too (cited_family f (clauses_above (length f.clauses) b.clauses)) b.clauses
+    (represents f b.clauses formula)
     (members (decisions b.trail.assigned)) ends.3))
 
 pub all-units : (f : Cnf) (b : BaseState) (settled : ℕ) → HasFormula f b.clauses (length f.clauses)
@@ -192,7 +193,8 @@ pub outcome-seen : (f : Cnf) (old new : BaseState) (v : StrengthenerState) (sett
     → ((k : ClauseFamily) → Represents k new.clauses → k id ≡ None → IsStrengthened k new.trail.vars id clause outcome)
     → IsStrengthened (cited_family v.formula v.kept) v.formula.vars id clause outcome
 outcome-seen f old new v settled x y id clause outcome h same vars is high none all =
-    subst (λ (w : StrengthenerState). IsStrengthened (cited_family w.formula w.kept) w.formula.vars id clause outcome) is
+    subst (λ (w : StrengthenerState). IsStrengthened (cited_family w.formula w.kept)
+    w.formula.vars id clause outcome) is
     (subst (λ n. IsStrengthened k n id clause outcome) (vars ∙ h.grounded.vars)
     (all k (subst (Represents k) (sym same) (represents f old.clauses h.formula))
     (uncited f (clauses_above (length f.clauses) old.clauses) id

@@ -184,9 +184,11 @@ clause-steps : (assigned : List Assigned) (r : Reach) (ls : List Literal) → Ar
 clause-steps assigned r [] some =
     (record { more = more-itself r; grows = grows-itself r.forced; ofs = λ o. o }, λ l m. absurd (cc))
 clause-steps assigned r (x ∷ xs) some =
-    let first = lit-steps assigned r x (All-head (λ (l : Literal). IsSome (assigned_to assigned (var_of l))) x xs some) in
+    let first = lit-steps assigned r x (All-head (λ (l : Literal). IsSome (assigned_to assigned (var_of l)))
+    x xs some) in
     let s : Reach = with_literal_of assigned r x in
-    let rest = clause-steps assigned s xs (All-tail (λ (l : Literal). IsSome (assigned_to assigned (var_of l))) x xs some) in (
+    let rest = clause-steps assigned s xs (All-tail (λ (l : Literal). IsSome (assigned_to assigned (var_of l)))
+    x xs some) in (
       steps-then assigned r s (with_clause_of assigned s xs) first.0 rest.0,
       λ q m. either q x xs (IsCovered assigned (with_clause_of assigned s xs) q) m
           (λ e. subst (IsCovered assigned (with_clause_of assigned s xs)) (sym e)

@@ -51,7 +51,8 @@ all-map P Q g keep [] all = All-nil Q
 all-map P Q g keep (x ∷ xs) all =
     All-cons Q (g x) (map g xs) (keep x (All-head P x xs all)) (all-map P Q g keep xs (All-tail P x xs all))
 
--- the assignments change, each to one of the same literal and level, and those that had unit clauses as reasons still do
+-- the assignments change, each to one of the same literal and level, and those that had unit clauses as reasons
+-- still do
 pub grounded-mapped : (f : Cnf) (old new : Clauses) (t : TrailState) (settled : ℕ) (g : Assigned → Assigned)
     → ((a : Assigned) → (g a).lit ≡ a.lit) → ((a : Assigned) → IsForcedAt 0 a → IsForcedAt 0 (g a))
     → ((k : ℕ) (a : Assigned) → slice_get t.assigned k ≡ Some a → HasUnitReason old a → HasUnitReason new (g a))
@@ -170,7 +171,8 @@ remove-grounded f clauses t settled p c at two g = record {
   low = g.low;
   units = λ place l e. go l (g.units place l (there place l e));
   within = g.within;
-  done = All-weaker (HasUnitReason clauses) (HasUnitReason (finite.remove clauses p)) keep (take settled t.assigned) g.done;
+  done = All-weaker (HasUnitReason clauses) (HasUnitReason (finite.remove clauses p)) keep
+      (take settled t.assigned) g.done;
 }
   where
     not-unit : (l : Literal) → set.contains c.literals ≡ members (l ∷ []) → ⊥
@@ -184,8 +186,10 @@ remove-grounded f clauses t settled p c at two g = record {
       h.1,
       by-eq (family (finite.remove clauses p) h.0.0 ≡ Some (members (a.lit ∷ []))) h.0.0 p
           (λ same. absurd (not-unit a.lit (some-set (set.contains c.literals) (members (a.lit ∷ []))
-          (sym (ap (option_map (λ (y : BaseClause). set.contains y.literals)) (ap (finite.get clauses) same ∙ at)) ∙ h.2))))
-          (λ apart. ap (option_map (λ (y : BaseClause). set.contains y.literals)) (get-remove-other clauses p h.0.0 apart)
+          (sym (ap (option_map (λ (y : BaseClause). set.contains y.literals))
+          (ap (finite.get clauses) same ∙ at)) ∙ h.2))))
+          (λ apart. ap (option_map (λ (y : BaseClause). set.contains y.literals))
+          (get-remove-other clauses p h.0.0 apart)
           ∙ h.2),
     )
 

@@ -70,7 +70,8 @@ stands-some t index l v s e = subst IsSome (sym (ap (assigned_to t.assigned) e �
 pub stands-by : (t : TrailState) (index : ℕ) (l : Literal) (v : ℕ) (o : Option Place) → (s : StandsAt t index l)
     → v ≡ var_of l → option_map (λ (a : Assigned). a.reason) (assigned_to t.assigned v) ≡ Some o → s.is.reason ≡ o
 stands-by t index l v o s e r =
-    some-is s.is.reason o (sym (ap (option_map (λ (a : Assigned). a.reason)) (ap (assigned_to t.assigned) e ∙ s.to)) ∙ r)
+    some-is s.is.reason o (sym (ap (option_map (λ (a : Assigned). a.reason))
+    (ap (assigned_to t.assigned) e ∙ s.to)) ∙ r)
 
 -- ---- clauses of one literal
 pub one-member : (x q : Literal) → members (x ∷ []) q ≡ true → q ≡ x
@@ -178,7 +179,8 @@ module _ (b : BaseState) (arena : ArenaState) (t : TrailState) (index : ℕ) (l 
             let n = not-both t l g.trail (ap (λ (u : TrailState). true_in u.assigned (negation l)) trail ∙ gone) in
             let h = holds-t in cc
         at-place p (inr x) =
-            let stood : slice_get t.assigned x.0 ≡ Some x.1 = ap (λ (u : TrailState). slice_get u.assigned x.0) trail ∙ x.2 in
+            let stood : slice_get t.assigned x.0 ≡ Some x.1 =
+            ap (λ (u : TrailState). slice_get u.assigned x.0) trail ∙ x.2 in
             let place : x.0 ≡ index = one-place t x.0 index x.1 s.is g.trail stood s.there
             (ap (λ (q : Literal). q.index) (x.3 ∙ sym s.makes)) in
             let a : x.1 ≡ s.is = some-is x.1 s.is (sym stood ∙ ap (slice_get t.assigned) place ∙ s.there) in
@@ -234,10 +236,12 @@ module _ (b : BaseState) (arena : ArenaState) (t : TrailState) (index : ℕ) (l 
         derived = subst (InClosure k no_literals) (sym e) derived;
         missing = subst (λ q. ¬ HasUnit k q) (sym e) missing;
         justified = subst (λ q. IsJustified k b.trail.vars (q ∷ []) unit.hints) (sym e)
-            (justified k b.clauses arena t (at arena place).lits r (l ∷ []) (at arena place).id unit.hints is.cites same g
+            (justified k b.clauses arena t (at arena place).lits r (l ∷ [])
+            (at arena place).id unit.hints is.cites same g
             reached falsified lead gathered (cites-at k b.clauses arena place is.cites same reason-there')
             (λ q m. both q (valued q m)) b.trail.vars ((λ q m. absurd (cc)), tt)
-            (All-cons (λ (q : Literal). q.index < b.trail.vars) l [] known (All-nil (λ (q : Literal). q.index < b.trail.vars))));
+            (All-cons (λ (q : Literal). q.index < b.trail.vars) l [] known
+            (All-nil (λ (q : Literal). q.index < b.trail.vars))));
       }
         where
           reason-there' : Has arena place
@@ -265,7 +269,8 @@ low-reason b t index l None trail s low by =
     let f : IsForcedAt 0 (get_or t.assigned index s.is) =
     subst (λ (u : TrailState). IsForcedAt 0 (get_or u.assigned index s.is)) (sym trail)
     (low index s.is (subst (λ (u : TrailState). index < length u.assigned) trail inside)) in
-    let e : is_none s.is.reason ≡ false = ap (λ (a : Assigned). is_none a.reason) (sym (read-is t index l s s.is)) ∙ f.1 in
+    let e : is_none s.is.reason ≡ false = ap (λ (a : Assigned). is_none a.reason)
+    (sym (read-is t index l s s.is)) ∙ f.1 in
     let g : is_none s.is.reason ≡ true = ap is_none by in
     absurd (cc)
 

@@ -39,7 +39,8 @@ module _ (k : ClauseFamily) (clauses : Clauses) (kept : List Literal) (assigned 
 
   not-derived : (l : Literal) → true_in assigned l ≡ false → ¬ InClosure k (negated kept) l
   not-derived l e c =
-      let t : true_in assigned l ≡ true = (all.closure l).1 (subst (λ ls. InClosure k (members ls) l) (sym decided) c) in
+      let t : true_in assigned l ≡ true = (all.closure l).1
+      (subst (λ ls. InClosure k (members ls) l) (sym decided) c) in
       absurd (cc)
 
   pub walks-without : (l : Literal) (rest outcome : List Literal) → IsFalse assigned l
@@ -63,7 +64,8 @@ module _ (k : ClauseFamily) (clauses : Clauses) (kept : List Literal) (assigned 
       )
 
 -- where a conflict is derived the walk stops
-pub stops : (k : ClauseFamily) (kept rest : List Literal) → DerivesConflict k (negated kept) → WalkKeeps k kept rest kept
+pub stops : (k : ClauseFamily) (kept rest : List Literal) → DerivesConflict k (negated kept)
+    → WalkKeeps k kept rest kept
 stops k kept [] c = refl
 stops k kept (l ∷ rest) c = inl (c, refl)
 
@@ -192,7 +194,8 @@ module _ (start old new : BaseState) (kept after rest clause : List Literal) (l 
               ⊎ ((value_in old.trail.assigned l ≡ None) × DerivesConflict (family new.clauses)
               (members (map negation after)))
               → WalkKeeps k kept (l ∷ rest) (kept ++ l ∷ [])
-          go (inl holds) = walks-last k old.clauses kept old.trail.assigned walking.decided is' stopped.closure l rest holds
+          go (inl holds) = walks-last k old.clauses kept old.trail.assigned
+              walking.decided is' stopped.closure l rest holds
           go (inr c) = walks-with k old.clauses kept old.trail.assigned walking.decided is' stopped.closure l rest
               (kept ++ l ∷ []) c.0 (stops k (kept ++ l ∷ []) rest
               (subst (λ ls. DerivesConflict k (negated ls)) stopped.last

@@ -87,7 +87,8 @@ decisions-push (x ∷ xs) l level = go (is_none x.reason) (decisions-push xs l l
     go true e = ap (λ ls. x.lit ∷ ls) e
     go false e = e
 
-pub negation-push : (kept : List Literal) (l : Literal) → map negation (kept ++ l ∷ []) ≡ map negation kept ++ negation l ∷ []
+pub negation-push : (kept : List Literal) (l : Literal)
+    → map negation (kept ++ l ∷ []) ≡ map negation kept ++ negation l ∷ []
 negation-push [] l = refl
 negation-push (x ∷ xs) l = ap (λ ls. negation x ∷ ls) (negation-push xs l)
 

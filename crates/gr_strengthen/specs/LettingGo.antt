@@ -56,7 +56,8 @@ pub record IsLettingGo (start b : BaseState) (last : ℕ) (gone rest : List ℕ)
   pub let_go : AreLetGo (clauses_above last start.clauses) (clauses_above last b.clauses) gone
   pub coming : AllPairs (λ a b. a < b) rest
   pub below : All (λ id. All (λ other. id < other) rest) gone
-  pub part : (place : ℕ) (c : BaseClause) → finite.get b.clauses place ≡ Some c → finite.get start.clauses place ≡ Some c
+  pub part : (place : ℕ) (c : BaseClause) → finite.get b.clauses place ≡ Some c
+      → finite.get start.clauses place ≡ Some c
   pub holding : (f : Cnf) (settled forced decided : ℕ) → length f.clauses ≡ last
       → IsHolding f start.clauses start.trail settled forced decided
       → IsHolding f b.clauses b.trail settled forced decided

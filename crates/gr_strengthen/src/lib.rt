@@ -12,3 +12,6 @@ mod walking;
 
 pub use strengtheners::Strengthener;
 pub use units::Derived;
+
+#[cfg(test)]
+mod tests;

@@ -19,6 +19,7 @@ lits-preserved c =
           (subst (VarsUpTo c.args.trail.now.vars) e c.lits.invariant.known);
       left = ap (λ ls. ls ++ pick tail) c.in_ok-choose_one.ensures
           ∙ append_assoc c.lits.chosen (pick (x ∷ [])) (pick tail)
-          ∙ ap (λ ls. c.lits.chosen ++ ls) (sym (chosen-cons c.args.trail.now.assigned c.args.decided.now.marked x tail))
+          ∙ ap (λ ls. c.lits.chosen ++ ls)
+          (sym (chosen-cons c.args.trail.now.assigned c.args.decided.now.marked x tail))
           ∙ ap (λ ls. c.lits.chosen ++ pick ls) (sym e) ∙ c.lits.invariant.left;
     }

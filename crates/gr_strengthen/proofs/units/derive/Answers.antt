@@ -109,5 +109,6 @@ returns-clause-unit c k is =
     (reach_in c.reach.new.reached)
     (subst (λ ls. IsReached c.arena-arena.result.now t.assigned ls (reach_in c.reach.new.reached)) c.lits-source.ensures
     c.reach.ensures.reached) (record { lit = l; hints = c.in_ok-hints.hints }) refl c.in_ok-hints.ensures.lead
-    (c.in_ok-hints.ensures.ids ∙ ap (λ n. reason_ids c.arena-arena.result.now c.reach.new.reached.forced.marked t.assigned
+    (c.in_ok-hints.ensures.ids
+    ∙ ap (λ n. reason_ids c.arena-arena.result.now c.reach.new.reached.forced.marked t.assigned
     ++ n ∷ []) c.id.ensures)

@@ -25,7 +25,8 @@ lits-requires-in-Some c =
     let g : IsGraph c.arena.result.now t =
     base-graph c.args.base.now c.arena.result.now t c.arena.ensures.base c.arena.ensures.clauses
     c.trail-trail.ensures.trail c.lits.ensures.trail c.arena.ensures.normal c.arena.ensures.known in
-    reason-there c.args.base.now c.arena.result.now t c.args.index l g c.arena.ensures.clauses c.trail-trail.ensures.trail
+    reason-there c.args.base.now c.arena.result.now t c.args.index l g
+    c.arena.ensures.clauses c.trail-trail.ensures.trail
     s c.in-Some.place (stands-by t c.args.index l c.var.result (Some c.in-Some.place) s c.var.ensures.number
     (c.reason.ensures ∙ ap Some c.in-Some.is))
 

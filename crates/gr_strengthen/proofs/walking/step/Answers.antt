@@ -15,7 +15,8 @@ pub reason-requires : goal.reason-requires
 reason-requires c =
     let t = c.args.base.now.trail in
     let is : true_in t.assigned c.args.lit ≡ true =
-    true-value t.assigned c.args.lit (ap (λ (t : TrailState). value_in t.assigned c.args.lit) (sym c.trail.ensures.trail)
+    true-value t.assigned c.args.lit (ap (λ (t : TrailState). value_in t.assigned c.args.lit)
+    (sym c.trail.ensures.trail)
     ∙ sym c.in-Some-true.ensures ∙ ap Some c.in-Some-true.field-0-test) in
     subst (λ (t : TrailState). IsSome (assigned_to t.assigned c.var.result)) (sym c.trail-in-Some-true.ensures.trail)
     (subst (λ v. IsSome (assigned_to t.assigned v)) (sym c.var.ensures.number) (true-some t.assigned c.args.lit is))

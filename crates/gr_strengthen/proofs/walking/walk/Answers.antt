@@ -19,7 +19,8 @@ pub returns-in-Conflict-clause-walked : goal.returns-in-Conflict-clause-walked
 returns-in-Conflict-clause-walked c =
     subst (λ ls. HasWalked c.propagate.new.self ls c.args.clause.now (Some c.in-Conflict.place)) (sym c.clear.ensures)
     (walk-fails c.args.base.now c.propagate.new.self c.args.clause.now c.in-Conflict.place c.requires.low
-    c.propagate.ensures.decisions (subst (λ p. Ends p c.propagate.new.self) c.in-Conflict.is c.in_ok-place.ensures.ends))
+    c.propagate.ensures.decisions (subst (λ p. Ends p c.propagate.new.self)
+    c.in-Conflict.is c.in_ok-place.ensures.ends))
 
 pub lits-init : goal.lits-init
 lits-init c =

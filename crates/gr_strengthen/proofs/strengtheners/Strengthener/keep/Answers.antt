@@ -42,7 +42,8 @@ returns c =
     let lacks = unused-id s.formula.now s.base.clauses c.args.id h.formula.ids high
     (subst (λ (v : StrengthenerState). finite.get v.kept c.args.id ≡ None) (sym c.self.view_is) c.requires.unused) in
     ap (λ k. record { formula = s.formula.now; kept = k })
-    (keep-kept s.formula.now s.base c.enter.new.base c.args.id c.args.clause.now h.formula.ids c.in_ok-enter.ensures high
+    (keep-kept s.formula.now s.base c.enter.new.base c.args.id c.args.clause.now
+    h.formula.ids c.in_ok-enter.ensures high
     lacks)
     ∙ ap (λ (v : StrengthenerState). record v {
       kept = finite.insert v.kept c.args.id (set.from_list c.args.clause.now);

@@ -8,14 +8,16 @@ use Rattle.gr_strengthen.proofs.strengtheners.Strengthener.let_go_half.Goals as 
 pub compact_dead-requires : goal.compact_dead-requires
 compact_dead-requires c =
     let s = c.self.inside in
-    let h = c.in_ok-gone.ensures.holding s.formula.now s.settled s.notes.reached.forced.vars s.notes.reached.decided.vars
+    let h = c.in_ok-gone.ensures.holding s.formula.now s.settled s.notes.reached.forced.vars
+    s.notes.reached.decided.vars
     (sym (ap length c.clauses.ensures.clauses)) (c.self.invariant c.if-not-self.false) in
     h.grounded.ground
 
 pub invariant_of-self-2 : goal.invariant_of-self-2
 invariant_of-self-2 c w =
     let s = c.self.inside in
-    let h = c.in_ok-gone.ensures.holding s.formula.now s.settled s.notes.reached.forced.vars s.notes.reached.decided.vars
+    let h = c.in_ok-gone.ensures.holding s.formula.now s.settled s.notes.reached.forced.vars
+    s.notes.reached.decided.vars
     (sym (ap length c.clauses.ensures.clauses)) (c.self.invariant c.if-not-self.false) in
     still-holding s.formula.now c.let_go.new.base c.compact_dead.new.base s.settled s.notes.reached.forced.vars
     s.notes.reached.decided.vars c.in_ok-compact_dead.ensures h

@@ -40,7 +40,8 @@ returns-then-self-lits-clause-unit c =
     let h = propagated s.base new (c.self.invariant c.if-not-self.false) c.propagate.ensures.clauses
     c.propagate.ensures.grown in
     let first = c.first_unsettled-self-inside.ensures in
-    let all = settled-holding new c.first_unsettled-self-inside.result _ _ h first.within first.done h.forced' h.decided' in
+    let all = settled-holding new c.first_unsettled-self-inside.result
+    _ _ h first.within first.done h.forced' h.decided' in
     none-seen s.formula.now s.base.clauses new.clauses c.args.self.now c.propagate.ensures.clauses c.self.view_is
     (all-units s.formula.now new c.first_unsettled-self-inside.result all.formula all.grounded
     (c.if-self-lits.true ∙ lits-long c.trail.result.now c.lits.result.now c.lits.ensures.lits

@@ -55,5 +55,6 @@ returns-clause-outcome c =
     outcome-seen s.formula.now s.base c.walk.new.base c.args.self.now s.settled s.notes.reached.forced.vars
     s.notes.reached.decided.vars c.args.taken.now.id clause c.in_ok-outcome.outcome h c.in_ok-stop.ensures.clauses
     c.in_ok-stop.ensures.ground.vars c.self.view_is c.requires.above c.requires.unused
-    (λ k is none. subst (λ ls. IsStrengthened k c.walk.new.base.trail.vars c.args.taken.now.id ls c.in_ok-outcome.outcome)
+    (λ k is none. subst (λ ls. IsStrengthened k c.walk.new.base.trail.vars
+    c.args.taken.now.id ls c.in_ok-outcome.outcome)
     c.lits-lits.ensures (c.in_ok-outcome.ensures.outcome k is none))
