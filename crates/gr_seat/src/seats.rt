@@ -30,6 +30,19 @@ impl Model for SolverSeat {
         × ((fixed_or_none s.seat.fixed).reducers ≤ 8) };
 }
 
+impl SolverSeat {
+    /// The searching thread's number, 0. Takes no turn and no memory.
+    pub fn actor(&self) -> u32
+        ensures actor { result ≡ self.now.actor }
+        ensures first { result ≡ 0 }
+        ensures legal { HasSeenLegal self.now }
+    {
+        // The use of a field says what the type keeps.
+        let _seat = &self.seat;
+        0
+    }
+}
+
 /// A reducer's seat, with the parker on which it waits for work.
 #[derive(Drop)]
 pub struct ReducerSeat {

@@ -1,0 +1,14 @@
+pub mod Inputs
+pub mod Keeps
+pub mod Made
+pub mod Moving
+pub mod Takes
+pub mod Shares
+pub mod Returns
+pub mod Forgets
+pub mod Begins
+pub mod Held
+pub mod Cites
+pub mod Ables
+pub mod Sights
+pub mod Copies
