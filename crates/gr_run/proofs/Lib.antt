@@ -12,3 +12,8 @@ pub mod OwnExchange
 pub mod Reports
 pub mod Filtering
 pub mod Budgets
+pub mod Seeing
+pub mod SeatAnswers
+pub mod SeatRuns
+pub mod Beside
+pub mod SharedRuns

@@ -6,3 +6,5 @@ pub mod Alone
 pub mod Results
 pub mod Verdicts
 pub mod Offers
+pub mod Shared
+pub mod Beside
