@@ -3,7 +3,8 @@
 
 ghost use Rattle.std.specs.Prelude.{◌≡◌, drop, map, string_bytes, IfOk};
 ghost use Rattle.gr_top.specs.Checking.{output, sources};
-ghost use Rattle.gr_top.specs.Commands.{IsCheck, IsSolve, IsUnlawful};
+ghost use Rattle.gr_words.specs.Cases.{IsCheck, IsSolve};
+ghost use Rattle.gr_words.specs.Meanings.{Solving};
 ghost use Rattle.gr_top.specs.Solving.{streams};
 ghost use Rattle.glucored.specs.Runs.{Ends};
 
@@ -14,32 +15,47 @@ use std::alloc::Global;
 use std::env;
 use std::io::ErrorKind;
 use std::process::ExitCode;
+use std::sync::Wait;
+use std::thread::Threads;
 
 fn main(rt: HostRuntime) -> ExitCode {
-    let status = call(rt).unwrap_or(code(&Status::OutOfMemory));
+    let status = call(rt, &rt).unwrap_or(code(&Status::OutOfMemory));
     ExitCode::from(status)
 }
 
-/// Runs the program over the process's words, and answers the exit status.
-fn call(rt: HostRuntime) -> Result<u8, OutOfMemory> {
+/// Runs the program over the process's words, and answers the exit status. `threads` may start threads and wait for them.
+fn call<R: Threads + Wait + Sync>(rt: HostRuntime, threads: &R) -> Result<u8, OutOfMemory> {
     let words = read_words(rt)?;
-    call_with(rt, &words)
+    call_with(rt, threads, &words)
 }
 
 /// Runs the program over these words and the files that they name, and answers the exit status.
-fn call_with(rt: HostRuntime, words: &Words) -> Result<u8, OutOfMemory> {
+fn call_with<R: Threads + Wait + Sync>(
+    rt: HostRuntime,
+    threads: &R,
+    words: &Words,
+) -> Result<u8, OutOfMemory> {
     let names = files(rt.alloc(), words)?;
     let log_name = names.log.clone()?;
     let mut cnf = FileSource::new(rt, names.cnf);
     let mut log = FileSource::new(rt, log_name);
     let mut out = OutSink::new(rt);
     let mut proof = FileSink::new(rt, names.log);
-    let status = exit_status(rt.alloc(), words, &mut cnf, &mut log, &mut out, &mut proof);
+    let status = exit_status(
+        threads,
+        rt.alloc(),
+        words,
+        &mut cnf,
+        &mut log,
+        &mut out,
+        &mut proof,
+    );
     Ok(status)
 }
 
 /// Runs the program over its words and its streams, and answers the exit status.
-fn exit_status<A: Source, B: Source, C: Sink, D: Sink>(
+fn exit_status<R: Threads + Wait + Sync, A: Source, B: Source, C: Sink, D: Sink>(
+    rt: &R,
     alloc: Global,
     words: &Words,
     cnf: &mut A,
@@ -56,11 +72,11 @@ fn exit_status<A: Source, B: Source, C: Sink, D: Sink>(
         (sources (A.left cnf.new) (A.faults cnf.new) (B.left log.new) (B.faults log.new))
         (output (C.written out.old) (C.faults out.old)) (output (C.written out.new) (C.faults out.new))
         result }
-    ensures cnf { IsUnlawful words.now → cnf.new ≡ cnf.old }
+    ensures cnf { ((s : Solving) → IsSolve s words.now → ⊥) → (IsCheck words.now → ⊥) → cnf.new ≡ cnf.old }
     ensures log { (IsCheck words.now → ⊥) → log.new ≡ log.old }
-    ensures proof { (IsSolve words.now → ⊥) → proof.new ≡ proof.old }
+    ensures proof { ((s : Solving) → IsSolve s words.now → ⊥) → proof.new ≡ proof.old }
 {
-    let report = run(alloc, words, cnf, log, out, proof, &Open);
+    let report = run(rt, alloc, words, cnf, log, out, proof, &Open);
     code(&report.status)
 }
 
@@ -119,24 +135,28 @@ mod tests {
     }
 
     /// The exit status of this command on the two files.
-    fn status_of(rt: HostRuntime, command: &str) -> Result<u8, Fail> {
+    fn status_of<R: Threads + Wait + Sync>(
+        rt: HostRuntime,
+        threads: &R,
+        command: &str,
+    ) -> Result<u8, Fail> {
         let mut words = Words::new(rt.alloc());
         words.push(command)?;
         words.push(CNF)?;
         words.push(LOG)?;
-        Ok(call_with(rt, &words)?)
+        Ok(call_with(rt, threads, &words)?)
     }
 
     #[test]
     fn the_named_files_are_read_and_written(rt: HostRuntime) -> Result<(), Fail> {
         let formula = b"p cnf 1 2\n1 0\n-1 0\n";
         write(rt, CNF, formula)?;
-        assert_eq!(rt; status_of(rt, "solve")?, 20, "solve");
-        assert_eq!(rt; status_of(rt, "check")?, 0, "check");
+        assert_eq!(rt; status_of(rt, &rt, "solve")?, 20, "solve");
+        assert_eq!(rt; status_of(rt, &rt, "check")?, 0, "check");
         let mut buf = [0u8; 32];
         let mut log = FileSource::new(rt, String::from_str(rt.alloc(), LOG)?);
         let count = log.read(&mut buf)?;
-        assert_eq!(rt; buf.get(..count), Some(b"3 0 2 1 0\n".as_slice()));
+        assert!(rt; count > 0, "the proof log is empty");
         let mut cnf = FileSource::new(rt, String::from_str(rt.alloc(), CNF)?);
         let count = cnf.read(&mut buf)?;
         assert_eq!(rt; buf.get(..count), Some(formula.as_slice()));
@@ -149,10 +169,10 @@ mod tests {
         ];
         for (text, command, want) in rows {
             write(rt, CNF, text)?;
-            assert_eq!(rt; status_of(rt, command)?, want, "{command} on {text:?}");
+            assert_eq!(rt; status_of(rt, &rt, command)?, want, "{command} on {text:?}");
         }
         fs::remove_file(&rt, CNF)?;
-        assert_eq!(rt; status_of(rt, "solve")?, 4, "no formula");
+        assert_eq!(rt; status_of(rt, &rt, "solve")?, 4, "no formula");
         fs::remove_file(&rt, LOG)?;
         Ok(())
     }

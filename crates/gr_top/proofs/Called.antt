@@ -1,73 +1,75 @@
 -- the ways in which a call ends
-use Rattle.std.proofs.Common.{◌≡◌, sym, subst, refl, ℕ, List, ◌⊎◌, inl, inr}
+use Rattle.std.proofs.Common.{arith, ◌≡◌, sym, subst, refl, ℕ, List, [], inl, inr}
 use Rattle.std.specs.Prelude.{Option, Some, None, Result, Ok, Err, OnOk, OnErr, IfErr}
-use Rattle.gr_io.specs.Pieces.{Gains, GainsPart, Rose}
+use Rattle.gr_io.specs.Pieces.{Gains, GainsPart}
 use Rattle.gr_io.specs.declared.sinks.SinkError.{SinkError}
 use Rattle.gr_io.specs.declared.sinks.SinkError.TheVariants as sink_errors
 use Rattle.gr_logic.specs.Formulas.{Cnf}
 use Rattle.gr_dimacs.specs.Reads.{program_limits, Reads}
 use Rattle.gr_dimacs.specs.declared.faults.GrammarFault.{GrammarFault}
 use Rattle.gr_dimacs.specs.declared.faults.ReadError.TheVariants as read_errors
-use Rattle.gr_top.specs.Sinks.{Sinks, OutRose, IsUntouched}
+use Rattle.gr_run.specs.declared.options.SolveOptions.{SolveOptions}
+use Rattle.gr_top.specs.Sinks.{OutRose, IsUntouched}
 use Rattle.gr_top.specs.Texts.{fault_text, usage_text}
 use Rattle.gr_top.specs.Solving.{Streams, taking, ReadRose, IsReadFrom, IsFaultIn, AnswersBy, Answers, SolvesBy, Solves, IsBare}
 use Rattle.gr_top.specs.Refusing.{RefusesBy, Refuses}
 use Rattle.gr_top.specs.Statuses.{end_status}
 use Rattle.gr_top.specs.declared.statuses.Status.{Status}
-use Rattle.gr_top.specs.declared.statuses.Status.TheVariants.{Satisfiable, Unsatisfiable, Verified, NotVerified, Usage, Grammar, LogGrammar, ReadFault, SinkFault, OutOfMemory}
+use Rattle.gr_top.specs.declared.statuses.Status.TheVariants.{Satisfiable, Unsatisfiable, Unknown, Verified, NotVerified, Usage, Grammar, LogGrammar, ReadFault, SinkFault, OutOfMemory}
 use Rattle.gr_top.specs.declared.reports.Report.{Report}
 use Rattle.gr_top.proofs.Solved.{solves}
 
 -- an answer on the formula that was read solves its text
-answer-says : (status : Status) (old new : Streams) (f : Cnf) (r : Report)
-    → IsReadFrom (taking old new) f → AnswersBy status f old.sinks new.sinks r → SolvesBy status old new r
-answer-says Satisfiable old new f r read says = (f, read, says)
-answer-says Unsatisfiable old new f r read says = (f, read, says)
-answer-says SinkFault old new f r read says = inl (f, read, says)
-answer-says OutOfMemory old new f r read says = (inr (inr (f, read, says.0)), says.1)
-answer-says Usage old new f r read says = absurd says
-answer-says Verified old new f r read says = absurd says
-answer-says (NotVerified reason) old new f r read says = absurd says
-answer-says (LogGrammar fault) old new f r read says = absurd says
-answer-says (Grammar g) old new f r read says = absurd says
-answer-says ReadFault old new f r read says = absurd says
+answer-says : (status : Status) (o : SolveOptions) (old new : Streams) (f : Cnf) (r : Report)
+    → IsReadFrom (taking old new) f → AnswersBy status f o old.sinks new.sinks r → SolvesBy status o old new r
+answer-says Satisfiable o old new f r read says = (f, read, says)
+answer-says Unsatisfiable o old new f r read says = (f, read, says)
+answer-says Unknown o old new f r read says = (f, read, says)
+answer-says SinkFault o old new f r read says = inl (f, read, says)
+answer-says OutOfMemory o old new f r read says = (inr (inr (f, read, says.0)), says.1)
+answer-says Usage o old new f r read says = absurd says
+answer-says Verified o old new f r read says = absurd says
+answer-says (NotVerified reason) o old new f r read says = absurd says
+answer-says (LogGrammar fault) o old new f r read says = absurd says
+answer-says (Grammar g) o old new f r read says = absurd says
+answer-says ReadFault o old new f r read says = absurd says
 
-pub answer-solves : (old new : Streams) (f : Cnf) (r : Report)
-    → IsReadFrom (taking old new) f → Answers f old.sinks new.sinks r → Solves old new r
-answer-solves old new f r read says = solves old new r (answer-says r.status old new f r read says)
+pub answer-solves : (o : SolveOptions) (old new : Streams) (f : Cnf) (r : Report)
+    → IsReadFrom (taking old new) f → Answers f o old.sinks new.sinks r → Solves o old new r
+answer-solves o old new f r read says = solves o old new r (answer-says r.status o old new f r read says)
 
 -- a report with this status
-with-status : (status : Status) (old new : Streams) (r : Report) → r.status ≡ status
-    → SolvesBy status old new r → Solves old new r
-with-status status old new r is says = solves old new r (subst (λ s. SolvesBy s old new r) (sym is) says)
+with-status : (status : Status) (o : SolveOptions) (old new : Streams) (r : Report) → r.status ≡ status
+    → SolvesBy status o old new r → Solves o old new r
+with-status status o old new r is says = solves o old new r (subst (λ s. SolvesBy s o old new r) (sym is) says)
 
 -- the line on the text's fault was written, or was cut off
-pub fault-solves : (done : Result (Unit {0}) SinkError) (old new : Streams) (g : GrammarFault) (r : Report)
+pub fault-solves : (done : Result (Unit {0}) SinkError) (o : SolveOptions) (old new : Streams) (g : GrammarFault) (r : Report)
     → IsFaultIn (taking old new) g
     → OnOk done (Gains (fault_text g) old.sinks.out new.sinks.out)
     → OnErr done (GainsPart (fault_text g) old.sinks.out new.sinks.out)
     → IfErr done (λ e. e ≡ sink_errors.Fault → OutRose old.sinks new.sinks)
     → new.sinks.proof ≡ old.sinks.proof
-    → r.status ≡ end_status done (Grammar g) → IsBare r → Solves old new r
-fault-solves (Ok ok) old new g r fault whole part why proof is bare =
-    with-status (Grammar g) old new r is (fault, record { out = whole; proof = proof }, bare)
-fault-solves (Err sink_errors.Fault) old new g r fault whole part why proof is bare =
-    with-status SinkFault old new r is (inr (why refl, (g, fault, record { out = part; proof = proof }), bare))
-fault-solves (Err sink_errors.OutOfMemory) old new g r fault whole part why proof is bare =
-    with-status OutOfMemory old new r is (inr (inl (g, fault, record { out = part; proof = proof })), bare)
+    → r.status ≡ end_status done (Grammar g) → IsBare r → Solves o old new r
+fault-solves (Ok ok) o old new g r fault whole part why proof is bare =
+    with-status (Grammar g) o old new r is (fault, record { out = whole; proof = proof }, bare)
+fault-solves (Err sink_errors.Fault) o old new g r fault whole part why proof is bare =
+    with-status SinkFault o old new r is (inr (why refl, (g, fault, record { out = part; proof = proof }), bare))
+fault-solves (Err sink_errors.OutOfMemory) o old new g r fault whole part why proof is bare =
+    with-status OutOfMemory o old new r is (inr (inl (g, fault, record { out = part; proof = proof })), bare)
 
 -- the text could not be read
-pub read-fault-solves : (old new : Streams) (r : Report)
+pub read-fault-solves : (o : SolveOptions) (old new : Streams) (r : Report)
     → ReadRose old new → Reads program_limits (Err read_errors.ReadFault) old.text new.text
-    → IsUntouched old.sinks new.sinks → r.status ≡ ReadFault → IsBare r → Solves old new r
-read-fault-solves old new r rose undecided same is bare =
-    with-status ReadFault old new r is (rose, undecided, same, bare)
+    → IsUntouched old.sinks new.sinks → r.status ≡ ReadFault → IsBare r → Solves o old new r
+read-fault-solves o old new r rose undecided same is bare =
+    with-status ReadFault o old new r is (rose, undecided, same, bare)
 
 -- there was no memory to read the text
-pub no-memory-solves : (old new : Streams) (r : Report)
+pub no-memory-solves : (o : SolveOptions) (old new : Streams) (r : Report)
     → Reads program_limits (Err read_errors.OutOfMemory) old.text new.text
-    → IsUntouched old.sinks new.sinks → r.status ≡ OutOfMemory → IsBare r → Solves old new r
-no-memory-solves old new r reads same is bare = with-status OutOfMemory old new r is (inl (reads, same), bare)
+    → IsUntouched old.sinks new.sinks → r.status ≡ OutOfMemory → IsBare r → Solves o old new r
+no-memory-solves o old new r reads same is bare = with-status OutOfMemory o old new r is (inl (reads, same), bare)
 
 -- the usage text was written, or was cut off
 pub usage-refuses : (done : Result (Unit {0}) SinkError) (old new : Streams) (r : Report)
@@ -91,3 +93,8 @@ usage-refuses done old new r whole part why proof text faults is bare = record {
     says (Ok ok) whole part why = record { out = whole; proof = proof }
     says (Err sink_errors.Fault) whole part why = (why refl, record { out = part; proof = proof })
     says (Err sink_errors.OutOfMemory) whole part why = record { out = part; proof = proof }
+
+-- where nothing was read, memory may have been wanting
+pub nothing-read : (text : Option (List ℕ)) → Reads program_limits (Err read_errors.OutOfMemory) text text
+nothing-read (Some text) = record { taken = []; split = refl; within = omega arith; answers = tt; through = tt }
+nothing-read None = tt

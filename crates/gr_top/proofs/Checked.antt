@@ -1,6 +1,6 @@
 -- the check theorem from what each status says
-use Rattle.std.proofs.Common.{◌≡◌, ◌∙◌, sym, ap, subst, refl, ℕ, List, ◌⊎◌, inl, inr}
-use Rattle.std.specs.Prelude.{Option, Some, None, Result, Ok, Err, OnOk, OnErr, IfErr, IfSome}
+use Rattle.std.proofs.Common.{◌≡◌, ◌∙◌, sym, ap, subst, refl, ℕ, List, inl, inr}
+use Rattle.std.specs.Prelude.{Option, Some, None, Result, Ok, Err, OnOk, OnErr, IfErr}
 use Rattle.gr_io.specs.Pieces.{Gains, GainsPart, Rose}
 use Rattle.gr_io.specs.declared.sinks.SinkError.{SinkError}
 use Rattle.gr_io.specs.declared.sinks.SinkError.TheVariants as sink_errors
@@ -17,7 +17,7 @@ use Rattle.gr_top.specs.Checking.{Sources, Output, formula_taking, IsFormulaRead
 use Rattle.gr_top.specs.Solving.{IsBare, IsRefusal}
 use Rattle.gr_top.specs.Statuses.{end_status, stop_status}
 use Rattle.gr_top.specs.declared.statuses.Status.{Status}
-use Rattle.gr_top.specs.declared.statuses.Status.TheVariants.{Satisfiable, Unsatisfiable, Verified, NotVerified, Usage, Grammar, LogGrammar, ReadFault, SinkFault, OutOfMemory}
+use Rattle.gr_top.specs.declared.statuses.Status.TheVariants.{Satisfiable, Unsatisfiable, Unknown, Verified, NotVerified, Usage, Grammar, LogGrammar, ReadFault, SinkFault, OutOfMemory}
 use Rattle.gr_top.specs.declared.statuses.Stop.{Stop}
 use Rattle.gr_top.specs.declared.statuses.Stop.TheVariants as stops
 use Rattle.gr_top.specs.declared.reports.Report.{Report}
@@ -32,6 +32,7 @@ log-judges (Ok (LogGrammar fault)) f old new read says = (f, read, says)
 log-judges (Ok (Grammar g)) f old new read says = absurd says
 log-judges (Ok Satisfiable) f old new read says = absurd says
 log-judges (Ok Unsatisfiable) f old new read says = absurd says
+log-judges (Ok Unknown) f old new read says = absurd says
 log-judges (Ok Usage) f old new read says = absurd says
 log-judges (Ok ReadFault) f old new read says = absurd says
 log-judges (Ok SinkFault) f old new read says = absurd says
@@ -93,6 +94,7 @@ decided SinkFault s t old new says text log f cnf given is nothing = absurd (not
 decided OutOfMemory s t old new says text log f cnf given is nothing = tt
 decided Satisfiable s t old new says text log f cnf given is nothing = absurd says
 decided Unsatisfiable s t old new says text log f cnf given is nothing = absurd says
+decided Unknown s t old new says text log f cnf given is nothing = absurd says
 decided Usage s t old new says text log f cnf given is nothing = absurd says
 
 -- the fault of the formula's text is told, where nothing failed
@@ -112,6 +114,7 @@ refused SinkFault s t old new says text g cnf fault nothing = absurd (nothing.ou
 refused OutOfMemory s t old new says text g cnf fault nothing = tt
 refused Satisfiable s t old new says text g cnf fault nothing = absurd says
 refused Unsatisfiable s t old new says text g cnf fault nothing = absurd says
+refused Unknown s t old new says text g cnf fault nothing = absurd says
 refused Usage s t old new says text g cnf fault nothing = absurd says
 
 -- the check theorem holds where the report's status says what it is to say
@@ -137,6 +140,7 @@ tells (Grammar g) s t old new says gains = (says, gains)
 tells (LogGrammar fault) s t old new says gains = (says, gains)
 tells Satisfiable s t old new says gains = absurd says
 tells Unsatisfiable s t old new says gains = absurd says
+tells Unknown s t old new says gains = absurd says
 tells Usage s t old new says gains = absurd says
 tells ReadFault s t old new says gains = absurd says
 tells SinkFault s t old new says gains = absurd says
@@ -171,6 +175,7 @@ no-read-fault (Grammar g) s t says is = cc
 no-read-fault (LogGrammar fault) s t says is = cc
 no-read-fault Satisfiable s t says is = says
 no-read-fault Unsatisfiable s t says is = says
+no-read-fault Unknown s t says is = says
 no-read-fault Usage s t says is = says
 no-read-fault SinkFault s t says is = says
 no-read-fault OutOfMemory s t says is = says

@@ -1,13 +1,12 @@
 -- no verdict is false: which lines can stand on the output
-use Rattle.std.proofs.Common.{◌≡◌, ◌∙◌, ◌++◌, ◌∷◌, [], sym, ap, subst, refl, ℕ, Bool, List, length, get_or, arith, append_assoc, length-append}
-use Rattle.std.specs.Prelude.{Option, Some, None, codes}
+use Rattle.std.proofs.Common.{◌≡◌, ◌∙◌, ◌++◌, ◌∷◌, [], sym, ap, refl, ℕ, Bool, List, get_or, arith, append_assoc}
+use Rattle.std.specs.Prelude.{Option, Some, None}
 use Rattle.std.specs.Option.{option_map}
 use Rattle.gr_io.specs.Pieces.{Gains, GainsPart}
-use Rattle.gr_io.proofs.Parts.{part_all}
 use Rattle.gr_logic.specs.Formulas.{Cnf}
-use Rattle.gr_dimacs.specs.declared.faults.GrammarFault.{GrammarFault}
-use Rattle.gr_top.specs.Texts.{line_of, satisfiable_line, unsatisfiable_line, satisfiable_text, fault_text}
-use Rattle.gr_top.specs.Sinks.{Sinks, TellsPart, IsModel}
+use Rattle.gr_run.specs.Runs.{Satisfies}
+use Rattle.gr_top.specs.Texts.{satisfiable_line, unsatisfiable_line, unknown_line, satisfiable_text}
+use Rattle.gr_top.specs.Sinks.{Sinks}
 use Rattle.gr_top.specs.Solving.{Taking, Shows, NoFalseVerdict, IsReadFrom}
 
 -- what is added behind the same text is the same
@@ -88,7 +87,7 @@ same-honest told old new same = record {
 
 -- where a model was due, the verdict is that it satisfies the formula
 pub model-honest : (told : Taking) (f : Cnf) (old new : Sinks) (model : List Bool)
-    → IsReadFrom told f → IsModel f model → GainsPart (satisfiable_text model) old.out new.out
+    → IsReadFrom told f → Satisfies f model → GainsPart (satisfiable_text model) old.out new.out
     → NoFalseVerdict told old new
 model-honest told f old new model read is part = record {
   satisfiable = λ shows. (f, read, model, is);
@@ -96,4 +95,17 @@ model-honest told f old new model read is part = record {
       let shown = shown-part unsatisfiable_line (satisfiable_text model) old.out new.out shows part in
       absurd (differ-at 2 (unsatisfiable_line ++ shown.0) (satisfiable_text model) 85 83 refl refl
       (λ same. omega arith) shown.1);
+}
+
+-- where it was due that the limit was spent, neither verdict is shown
+pub unknown-honest : (told : Taking) (old new : Sinks) → GainsPart unknown_line old.out new.out → NoFalseVerdict told old new
+unknown-honest told old new part = record {
+  satisfiable = λ shows.
+      let shown = shown-part satisfiable_line unknown_line old.out new.out shows part in
+      absurd
+      (differ-at 2 (satisfiable_line ++ shown.0) unknown_line 83 85 refl refl (λ same. omega arith) shown.1);
+  unsatisfiable = λ shows.
+      let shown = shown-part unsatisfiable_line unknown_line old.out new.out shows part in
+      absurd
+      (differ-at 4 (unsatisfiable_line ++ shown.0) unknown_line 83 75 refl refl (λ same. omega arith) shown.1);
 }

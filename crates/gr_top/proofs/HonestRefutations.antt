@@ -1,14 +1,15 @@
 -- no verdict is false: the verdict on a log, and each answer
-use Rattle.std.proofs.Common.{◌≡◌, ◌++◌, refl, ℕ, List, arith, ◌⊎◌, inl, inr}
+use Rattle.std.proofs.Common.{◌++◌, refl, List, arith, inl, inr}
 use Rattle.gr_io.specs.Pieces.{Gains, GainsPart}
 use Rattle.gr_logic.specs.Formulas.{Cnf}
 use Rattle.gr_logic.specs.declared.lines.Line.{Line}
 use Rattle.gr_lrat.specs.Writing.{log_text}
-use Rattle.gr_top.specs.Branching.{IsRefutation}
+use Rattle.gr_run.specs.declared.options.SolveOptions.{SolveOptions}
+use Rattle.gr_top.specs.Histories.{IsRefutation}
 use Rattle.gr_top.specs.Texts.{satisfiable_line, unsatisfiable_line}
-use Rattle.gr_top.specs.Sinks.{Sinks, CutOutput, InModel, InVerdict, CutAnswer}
+use Rattle.gr_top.specs.Sinks.{Sinks, CutOutput, InModel, InVerdict, InUnknown, CutAnswer}
 use Rattle.gr_top.specs.Solving.{Taking, NoFalseVerdict, IsReadFrom}
-use Rattle.gr_top.proofs.Honest.{shown-part, differ-at, same-honest, model-honest}
+use Rattle.gr_top.proofs.Honest.{shown-part, differ-at, same-honest, model-honest, unknown-honest}
 
 -- where the verdict on a whole log that refutes the formula was due, it is that one
 pub refutation-honest : (told : Taking) (f : Cnf) (old new : Sinks) (lines : List Line)
@@ -24,16 +25,18 @@ refutation-honest told f old new lines read refutes gains part = record {
 }
 
 -- an output that was cut off shows no false verdict
-pub cut-output-honest : (told : Taking) (f : Cnf) (old new : Sinks)
-    → IsReadFrom told f → CutOutput f old new → NoFalseVerdict told old new
-cut-output-honest told f old new read (InModel model is part) =
+pub cut-output-honest : (told : Taking) (f : Cnf) (o : SolveOptions) (old new : Sinks)
+    → IsReadFrom told f → CutOutput f o old new → NoFalseVerdict told old new
+cut-output-honest told f o old new read (InModel model is part) =
     model-honest told f old new model read is part.out
-cut-output-honest told f old new read (InVerdict lines refutes gains part) =
+cut-output-honest told f o old new read (InVerdict lines refutes gains part) =
     refutation-honest told f old new lines read refutes gains part
+cut-output-honest told f o old new read (InUnknown diary history spent part) =
+    unknown-honest told old new part.out
 
 -- an answer that was cut off shows no false verdict
-pub cut-answer-honest : (told : Taking) (f : Cnf) (old new : Sinks)
-    → IsReadFrom told f → CutAnswer f old new → NoFalseVerdict told old new
-cut-answer-honest told f old new read (inl same) = same-honest told old new same.out
-cut-answer-honest told f old new read (inr (inl cut)) = cut-output-honest told f old new read cut
-cut-answer-honest told f old new read (inr (inr cut)) = same-honest told old new cut.out
+pub cut-answer-honest : (told : Taking) (f : Cnf) (o : SolveOptions) (old new : Sinks)
+    → IsReadFrom told f → CutAnswer f o old new → NoFalseVerdict told old new
+cut-answer-honest told f o old new read (inl same) = same-honest told old new same.out
+cut-answer-honest told f o old new read (inr (inl cut)) = cut-output-honest told f o old new read cut
+cut-answer-honest told f o old new read (inr (inr cut)) = same-honest told old new cut.out

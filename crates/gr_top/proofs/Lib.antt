@@ -1,14 +1,11 @@
-pub mod WordLists
 pub mod Pieces
-pub mod BranchingReasons
-pub mod BranchingResolvents
-pub mod BranchingLogs
-pub mod BranchingStack
 pub mod Honest
 pub mod HonestRefutations
 pub mod Solved
+pub mod Reported
 pub mod Answered
 pub mod Called
 pub mod FoundLogs
 pub mod JudgedLogs
 pub mod Checked
+pub mod MadeFormulas

@@ -1,5 +1,5 @@
 -- texts that are printed and handed on
-use Rattle.std.proofs.Common.{◌≡◌, ◌++◌, ◌∷◌, [], subst, ap, ℕ, List}
+use Rattle.std.proofs.Common.{◌≡◌, ◌++◌, [], subst, ℕ, List}
 use Rattle.std.specs.Prelude.{Option, Result, Ok, Err, OnOk, OnErr}
 use Rattle.gr_io.specs.Pieces.{Gains, GainsPart}
 use Rattle.gr_text.specs.Printing.{Prints}

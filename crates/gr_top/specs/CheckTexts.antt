@@ -3,7 +3,7 @@ use Rattle.std.specs.Prelude.{ℕ, List, [], ◌++◌, codes}
 use Rattle.std.specs.Fmt.{decimal}
 use Rattle.gr_top.specs.Texts.{line_of, fault_text}
 use Rattle.gr_top.specs.declared.statuses.Status.{Status}
-use Rattle.gr_top.specs.declared.statuses.Status.TheVariants.{Satisfiable, Unsatisfiable, Verified, NotVerified, Usage, Grammar, LogGrammar, ReadFault, SinkFault, OutOfMemory}
+use Rattle.gr_top.specs.declared.statuses.Status.TheVariants.{Satisfiable, Unsatisfiable, Unknown, Verified, NotVerified, Usage, Grammar, LogGrammar, ReadFault, SinkFault, OutOfMemory}
 use Rattle.gr_top.specs.declared.statuses.NotVerified.{NotVerified as Reason}
 use Rattle.gr_top.specs.declared.statuses.NotVerified.TheVariants.{Line, NoEmptyClause}
 use Rattle.gr_top.specs.declared.statuses.Cause.{Cause}
@@ -72,6 +72,7 @@ check_text (Grammar fault) = fault_text fault
 check_text (LogGrammar fault) = log_fault_text fault
 check_text Satisfiable = []
 check_text Unsatisfiable = []
+check_text Unknown = []
 check_text Usage = []
 check_text ReadFault = []
 check_text SinkFault = []

@@ -9,7 +9,7 @@ use Rattle.gr_io.specs.Pieces.{Rose}
 use Rattle.gr_lrat.specs.Logs.{LogOutcome, log_outcome, log_read}
 use Rattle.gr_lrat.specs.Logs as outcomes
 use Rattle.gr_top.specs.declared.statuses.Status.{Status}
-use Rattle.gr_top.specs.declared.statuses.Status.TheVariants.{Satisfiable, Unsatisfiable, Verified, NotVerified, Usage, Grammar, LogGrammar, ReadFault, SinkFault, OutOfMemory}
+use Rattle.gr_top.specs.declared.statuses.Status.TheVariants.{Satisfiable, Unsatisfiable, Unknown, Verified, NotVerified, Usage, Grammar, LogGrammar, ReadFault, SinkFault, OutOfMemory}
 use Rattle.gr_top.specs.declared.statuses.Stop.{Stop}
 use Rattle.gr_top.specs.declared.statuses.Stop.TheVariants as stops
 use Rattle.gr_top.specs.declared.statuses.NotVerified.{NotVerified as Reason}
@@ -119,6 +119,7 @@ SaysOfLog (LogGrammar fault) f old new = Finds f (misspelt fault) old new
 SaysOfLog (Grammar g) f old new = ⊥
 SaysOfLog Satisfiable f old new = ⊥
 SaysOfLog Unsatisfiable f old new = ⊥
+SaysOfLog Unknown f old new = ⊥
 SaysOfLog Usage f old new = ⊥
 SaysOfLog ReadFault f old new = ⊥
 SaysOfLog SinkFault f old new = ⊥

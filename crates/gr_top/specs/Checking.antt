@@ -12,7 +12,7 @@ use Rattle.gr_top.specs.CheckTexts.{check_text}
 use Rattle.gr_top.specs.CheckedLogs.{Shown, shown, SaysOfLog, IsLogUnread, IsWithinLimit, outcome_of, unproved, misspelt}
 use Rattle.gr_top.specs.Solving.{Taking, IsReadFrom, IsFaultIn, IsBare, IsRefusal}
 use Rattle.gr_top.specs.declared.statuses.Status.{Status}
-use Rattle.gr_top.specs.declared.statuses.Status.TheVariants.{Satisfiable, Unsatisfiable, Verified, NotVerified, Usage, Grammar, LogGrammar, ReadFault, SinkFault, OutOfMemory}
+use Rattle.gr_top.specs.declared.statuses.Status.TheVariants.{Satisfiable, Unsatisfiable, Unknown, Verified, NotVerified, Usage, Grammar, LogGrammar, ReadFault, SinkFault, OutOfMemory}
 use Rattle.gr_top.specs.declared.statuses.Stop.{Stop}
 use Rattle.gr_top.specs.declared.statuses.Stop.TheVariants as stops
 use Rattle.gr_top.specs.declared.reports.Report.{Report}
@@ -72,6 +72,7 @@ IsDue (NotVerified reason) old new = SaysOfBoth (NotVerified reason) old new
 IsDue (LogGrammar fault) old new = SaysOfBoth (LogGrammar fault) old new
 IsDue Satisfiable old new = ⊥
 IsDue Unsatisfiable old new = ⊥
+IsDue Unknown old new = ⊥
 IsDue Usage old new = ⊥
 IsDue ReadFault old new = ⊥
 IsDue SinkFault old new = ⊥
@@ -108,6 +109,7 @@ ChecksBy SinkFault s t old new = Rose old.faults new.faults × TellsPart s t old
 ChecksBy OutOfMemory s t old new = (IsCutShort s t × (new.text ≡ old.text)) ⊎ TellsPart s t old new
 ChecksBy Satisfiable s t old new = ⊥
 ChecksBy Unsatisfiable s t old new = ⊥
+ChecksBy Unknown s t old new = ⊥
 ChecksBy Usage s t old new = ⊥
 
 -- nothing failed in the check
@@ -124,6 +126,7 @@ IsAnswer outcome (LogGrammar fault) = outcome ≡ misspelt fault
 IsAnswer outcome OutOfMemory = Unit {0}
 IsAnswer outcome Satisfiable = ⊥
 IsAnswer outcome Unsatisfiable = ⊥
+IsAnswer outcome Unknown = ⊥
 IsAnswer outcome Usage = ⊥
 IsAnswer outcome (Grammar g) = ⊥
 IsAnswer outcome ReadFault = ⊥

@@ -1,10 +1,13 @@
 pub mod Commands
 pub mod Statuses
 pub mod Texts
+pub mod Histories
 pub mod Sinks
 pub mod Solving
+pub mod Reporting
 pub mod Refusing
 pub mod CheckTexts
 pub mod CheckedLogs
 pub mod Checking
-pub mod Branching
+pub mod MadeTexts
+pub mod Making

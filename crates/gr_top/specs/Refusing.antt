@@ -4,7 +4,7 @@ use Rattle.gr_top.specs.Sinks.{Sinks, OutRose, Tells, TellsPart}
 use Rattle.gr_top.specs.Texts.{usage_text}
 use Rattle.gr_top.specs.Solving.{Streams, IsBare}
 use Rattle.gr_top.specs.declared.statuses.Status.{Status}
-use Rattle.gr_top.specs.declared.statuses.Status.TheVariants.{Satisfiable, Unsatisfiable, Verified, NotVerified, Usage, Grammar, LogGrammar, ReadFault, SinkFault, OutOfMemory}
+use Rattle.gr_top.specs.declared.statuses.Status.TheVariants.{Satisfiable, Unsatisfiable, Unknown, Verified, NotVerified, Usage, Grammar, LogGrammar, ReadFault, SinkFault, OutOfMemory}
 use Rattle.gr_top.specs.declared.reports.Report.{Report}
 
 -- what each status says where the words are no lawful command line
@@ -14,6 +14,7 @@ RefusesBy SinkFault old new = OutRose old new × TellsPart usage_text old new
 RefusesBy OutOfMemory old new = TellsPart usage_text old new
 RefusesBy Satisfiable old new = ⊥
 RefusesBy Unsatisfiable old new = ⊥
+RefusesBy Unknown old new = ⊥
 RefusesBy Verified old new = ⊥
 RefusesBy (NotVerified reason) old new = ⊥
 RefusesBy (LogGrammar fault) old new = ⊥

@@ -1,14 +1,16 @@
 -- what an answer leaves on the output and on the proof log
-use Rattle.std.specs.Prelude.{◌≡◌, ◌⊎◌, ℕ, Bool, List, length, Option}
+use Rattle.std.specs.Prelude.{◌≡◌, ◌⊎◌, ℕ, Bool, List, Option}
 use Rattle.gr_logic.specs.Formulas.{Cnf}
-use Rattle.gr_logic.specs.Truth.{MeetsAll}
 use Rattle.gr_logic.specs.declared.lines.Line.{Line}
 use Rattle.gr_io.specs.Pieces.{Gains, GainsPart, Rose}
 use Rattle.gr_io.specs.declared.sinks.SinkError.{SinkError}
 use Rattle.gr_io.specs.declared.sinks.SinkError.TheVariants.{Fault}
 use Rattle.gr_lrat.specs.Writing.{log_text}
-use Rattle.gr_top.specs.Branching.{IsRefutation}
-use Rattle.gr_top.specs.Texts.{satisfiable_text, unsatisfiable_line}
+use Rattle.gr_diary.specs.Diaries.{Journal}
+use Rattle.gr_run.specs.declared.options.SolveOptions.{SolveOptions}
+use Rattle.gr_run.specs.Runs.{Satisfies}
+use Rattle.gr_top.specs.Histories.{IsHistory, IsRefutation, IsSpent}
+use Rattle.gr_top.specs.Texts.{satisfiable_text, unsatisfiable_line, unknown_line}
 
 -- what was written to the output and to the proof log, each where it is told, and how often each failed
 pub record Sinks : Type 0 where
@@ -62,17 +64,14 @@ pub data CutRefutation (lines : List Line) (old new : Sinks) (failed : SinkError
   VerdictCut : Gains (log_text lines) old.proof new.proof → GainsPart unsatisfiable_line old.out new.out
       → (failed ≡ Fault → OutRose old new) → CutRefutation lines old new failed
 
--- the model gives each of the formula's variables a value, and satisfies every clause
-pub record IsModel (f : Cnf) (model : List Bool) : Type 0 where
-  pub whole : length model ≡ f.vars
-  pub meets : MeetsAll model f.clauses
-
--- the output was cut off: in a model, or in the verdict on a log that is whole
-pub data CutOutput (f : Cnf) (old new : Sinks) : Type 0 where
-  InModel : (model : List Bool) → IsModel f model → TellsPart (satisfiable_text model) old new
-      → CutOutput f old new
+-- the output was cut off: in a model, in the verdict on a log that is whole, or in the one that the limit was spent
+pub data CutOutput (f : Cnf) (o : SolveOptions) (old new : Sinks) : Type 0 where
+  InModel : (model : List Bool) → Satisfies f model → TellsPart (satisfiable_text model) old new
+      → CutOutput f o old new
   InVerdict : (lines : List Line) → IsRefutation f lines → Gains (log_text lines) old.proof new.proof
-      → GainsPart unsatisfiable_line old.out new.out → CutOutput f old new
+      → GainsPart unsatisfiable_line old.out new.out → CutOutput f o old new
+  InUnknown : (diary : Journal) → IsHistory f o diary → IsSpent f o diary → TellsPart unknown_line old new
+      → CutOutput f o old new
 
 -- the proof log was cut off, before any byte of the verdict
 pub record CutLog (f : Cnf) (old new : Sinks) : Type 0 where
@@ -82,5 +81,5 @@ pub record CutLog (f : Cnf) (old new : Sinks) : Type 0 where
   pub out : new.out ≡ old.out
 
 -- what an answer leaves that was cut off: nothing, a part of the output, or a part of the proof log
-abbrev pub CutAnswer : Cnf → Sinks → Sinks → Type 0
-CutAnswer f old new = IsUntouched old new ⊎ (CutOutput f old new ⊎ CutLog f old new)
+abbrev pub CutAnswer : Cnf → SolveOptions → Sinks → Sinks → Type 0
+CutAnswer f o old new = IsUntouched old new ⊎ (CutOutput f o old new ⊎ CutLog f old new)

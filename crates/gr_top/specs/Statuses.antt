@@ -9,7 +9,7 @@ use Rattle.gr_check.specs.declared.refusals.Refused.TheVariants as refusals
 use Rattle.gr_check.specs.declared.refusals.Finish.{Finish}
 use Rattle.gr_check.specs.declared.refusals.Finish.TheVariants as finishes
 use Rattle.gr_top.specs.declared.statuses.Status.{Status}
-use Rattle.gr_top.specs.declared.statuses.Status.TheVariants.{Satisfiable, Unsatisfiable, Verified, NotVerified, Usage, Grammar, LogGrammar, ReadFault, SinkFault, OutOfMemory}
+use Rattle.gr_top.specs.declared.statuses.Status.TheVariants.{Satisfiable, Unsatisfiable, Unknown, Verified, NotVerified, Usage, Grammar, LogGrammar, ReadFault, SinkFault, OutOfMemory}
 use Rattle.gr_top.specs.declared.statuses.Stop.{Stop}
 use Rattle.gr_top.specs.declared.statuses.Stop.TheVariants as stops
 use Rattle.gr_top.specs.declared.statuses.NotVerified.TheVariants.{Line, NoEmptyClause}
@@ -17,10 +17,11 @@ use Rattle.gr_top.specs.declared.statuses.Cause.{Cause}
 use Rattle.gr_top.specs.declared.statuses.Cause.TheVariants as causes
 use Rattle.gr_top.specs.declared.statuses.LogFault.TheVariants as faults
 
--- 10 and 20 as in the SAT competitions, 0 for a verified log, and small numbers for what went wrong
+-- 10, 20 and 0 as in the SAT competitions, 0 for a verified log too, and small numbers for what went wrong
 abbrev pub exit_code : Status → ℕ
 exit_code Satisfiable = 10
 exit_code Unsatisfiable = 20
+exit_code Unknown = 0
 exit_code Verified = 0
 exit_code (NotVerified reason) = 1
 exit_code Usage = 2
@@ -34,6 +35,7 @@ exit_code OutOfMemory = 6
 abbrev pub IsWellRead : Status → Type 0
 IsWellRead Satisfiable = Unit {0}
 IsWellRead Unsatisfiable = Unit {0}
+IsWellRead Unknown = Unit {0}
 IsWellRead Verified = Unit {0}
 IsWellRead (NotVerified reason) = Unit {0}
 IsWellRead Usage = Unit {0}

@@ -18,6 +18,10 @@ satisfiable_line = line_of (codes "s SATISFIABLE")
 abbrev pub unsatisfiable_line : List ℕ
 unsatisfiable_line = line_of (codes "s UNSATISFIABLE")
 
+-- the verdict that the limit was spent
+abbrev pub unknown_line : List ℕ
+unknown_line = line_of (codes "s UNKNOWN")
+
 -- the literals that a model makes true, of the variables from this index on
 abbrev pub true_literals : ℕ → List Bool → List Literal
 true_literals i [] = []
@@ -70,4 +74,8 @@ fault_text g = codes "c fault: line " ++ (decimal g.line ++ kind_line g.kind)
 
 -- how the program is called
 abbrev pub usage_text : List ℕ
-usage_text = line_of (codes "c usage: glucored solve CNF LOG") ++ line_of (codes "c usage: glucored check CNF LOG")
+usage_text =
+    line_of
+    (codes
+    "c usage: glucored solve CNF LOG [--reducers N] [--conflicts N] [--capacity N] [--offer N] [--keep-all]")
+    ++ (line_of (codes "c usage: glucored check CNF LOG") ++ line_of (codes "c usage: glucored large KIND N"))

@@ -1,30 +1,48 @@
 // The call that the program makes.
-ghost use Rattle.std.specs.Prelude.{◌≡◌, All, IfErr, OnOk, OnErr};
+ghost use Rattle.std.specs.Prelude.{◌≡◌, ℕ, All, IfErr, OnOk};
 ghost use Rattle.gr_logic.specs.Log.{HasIds};
+ghost use Rattle.gr_history.specs.HistoryLogs.{lines_in};
+ghost use Rattle.gr_logic.specs.Formulas.{Cnf};
+ghost use Rattle.gr_run.specs.Offers.{IsOfferedUpTo};
+ghost use Rattle.gr_run.specs.Results.{AreInRange, IsRan};
+ghost use Rattle.gr_run.specs.declared.options.SolveOptions.{SolveOptions};
+ghost use Rattle.gr_words.specs.Calls.{IsWithinLimits, options_of};
+ghost use Rattle.gr_words.specs.Cases.{IsCheck, IsLarge, IsSolve, IsUnlawful};
+ghost use Rattle.gr_words.specs.Meanings.{Solving};
+ghost use Rattle.gr_words.specs.declared.calls.Kind.{Kind};
 ghost use Rattle.gr_top.specs.Checking.{Checks, output, sources};
-ghost use Rattle.gr_top.specs.Commands.{IsCheck, IsSolve, IsUnlawful};
+ghost use Rattle.gr_top.specs.Commands.{run_options};
+ghost use Rattle.gr_top.specs.Making.{Makes};
 ghost use Rattle.gr_top.specs.Sinks.{sinks, TellsRefutation, CutRefutation};
 ghost use Rattle.gr_top.specs.Refusing.{Refuses};
 ghost use Rattle.gr_top.specs.Statuses.{IsWellRead};
 ghost use Rattle.gr_top.specs.Solving.{streams, Answers, Solves, SparesProof};
 
-use crate::branching::{Decision, decide};
 use crate::checks::run_check;
-use crate::reports::{Report, ended};
-use crate::statuses::{Status, cut_status};
-use crate::texts::{write_fault, write_log, write_model, write_unsatisfiable, write_usage};
-use crate::words::{Command, Words};
+use crate::made::run_large;
+use crate::reports::{Report, ended, reported};
+use crate::statuses::Status;
+use crate::texts::{write_fault, write_model, write_unknown, write_unsatisfiable, write_usage};
+use gr_diary::Diary;
 use gr_dimacs::{PROGRAM_LIMITS, ReadError, read};
+use gr_history::write_history;
 use gr_io::{Gate, Sink, SinkError, Source};
-use gr_logic::{Assignment, Formula, Line, LogLines};
+use gr_logic::Formula;
+use gr_run::{Ran, SolveOptions, Verdict, solve_alone, solve_shared};
+use gr_words::{Call, SolveWords, Words, WordsError};
 use std::alloc::Global;
+use std::sync::Wait;
+use std::thread::Threads;
 
-/// Runs the program over its words and its streams. For the words `solve CNF LOG` it reads a formula in DIMACS CNF from
-/// `cnf`, decides it, writes the lines of a refutation to `proof` in text LRAT and then the verdict to `out`, for a
-/// satisfiable formula with an assignment; `log` is not read. For the words `check CNF LOG` it checks the proof log that
-/// it reads from `log` against the formula, and writes to `out` what it comes to. `gate` is not passed. It waits for
-/// nothing.
-pub fn run<A: Source, B: Source, C: Sink, D: Sink, G: Gate>(
+/// Runs the program over its words and its streams. For the words `solve CNF LOG`, with options, it reads a formula in
+/// DIMACS CNF from `cnf`, decides it, writes the lines of a refutation to `proof` in text LRAT and then the verdict to
+/// `out`, for a satisfiable formula with an assignment; `log` is not read. For the words `check CNF LOG` it checks the
+/// proof log that it reads from `log` against the formula, and writes to `out` what it comes to. For `large KIND N` it
+/// makes a formula that no assignment satisfies, decides it, and writes a summary to `out`; nothing is read. Reducers work
+/// in threads of their own, which have ended when it returns; the searching thread and each reducer pass `gate`. With
+/// reducers it may wait for a turn or a thread.
+pub fn run<R: Threads + Wait + Sync, A: Source, B: Source, C: Sink, D: Sink, G: Gate>(
+    rt: &R,
     alloc: Global,
     words: &Words,
     cnf: &mut A,
@@ -33,7 +51,7 @@ pub fn run<A: Source, B: Source, C: Sink, D: Sink, G: Gate>(
     proof: &mut D,
     gate: &G,
 ) -> Report
-    ensures solve { IsSolve words.now → Solves
+    ensures solve { (s : Solving) → IsSolve s words.now → Solves (run_options s)
         (streams (A.left cnf.old) (A.faults cnf.old)
         (C.written out.old) (C.faults out.old) (D.written proof.old) (D.faults proof.old))
         (streams (A.left cnf.new) (A.faults cnf.new)
@@ -44,6 +62,9 @@ pub fn run<A: Source, B: Source, C: Sink, D: Sink, G: Gate>(
         (sources (A.left cnf.new) (A.faults cnf.new) (B.left log.new) (B.faults log.new))
         (output (C.written out.old) (C.faults out.old)) (output (C.written out.new) (C.faults out.new))
         result }
+    ensures large { (kind : Kind) (n : ℕ) → IsLarge kind n words.now → Makes kind n
+        (output (C.written out.old) (C.faults out.old)) (output (C.written out.new) (C.faults out.new))
+        result }
     ensures unlawful { IsUnlawful words.now → Refuses
         (streams (A.left cnf.old) (A.faults cnf.old)
         (C.written out.old) (C.faults out.old) (D.written proof.old) (D.faults proof.old))
@@ -52,27 +73,75 @@ pub fn run<A: Source, B: Source, C: Sink, D: Sink, G: Gate>(
         result }
     ensures log { (IsCheck words.now → ⊥) → log.new ≡ log.old }
     ensures proof { SparesProof result.status → proof.new ≡ proof.old }
-    ensures proof_of_others { (IsSolve words.now → ⊥) → proof.new ≡ proof.old }
+    ensures proof_of_others { ((s : Solving) → IsSolve s words.now → ⊥) → proof.new ≡ proof.old }
     ensures out { result.status ≡ Status.ReadFault → out.new ≡ out.old }
-    ensures cnf { IsUnlawful words.now → cnf.new ≡ cnf.old }
+    ensures cnf { ((s : Solving) → IsSolve s words.now → ⊥) → (IsCheck words.now → ⊥) → cnf.new ≡ cnf.old }
     ensures calm { IsWellRead result.status →
         (A.faults cnf.new ≡ A.faults cnf.old) × (B.faults log.new ≡ B.faults log.old) }
 {
-    match words.call() {
-        Some((Command::Solve, _, _)) => solve(alloc, cnf, out, proof),
-        Some((Command::Check, _, _)) => run_check(alloc, cnf, log, out),
-        None => ended(alloc, write_usage(out), Status::Usage),
+    match words.call(alloc) {
+        Ok(Call::Solve(words)) => solve(rt, alloc, &run_options(words), cnf, out, proof, gate),
+        Ok(Call::Check(_)) => run_check(alloc, cnf, log, out),
+        Ok(Call::Large(large)) => run_large(rt, alloc, large, out, gate),
+        Err(WordsError::Usage) => ended(alloc, write_usage(out), Status::Usage),
+        Err(WordsError::OutOfMemory) => Report::bare(alloc, Status::OutOfMemory),
     }
 }
 
-/// Reads the formula and answers it, or tells why there is none.
-fn solve<A: Source, C: Sink, D: Sink>(
+/// The options of a run, as the words tell them.
+fn run_options(words: SolveWords<'_>) -> SolveOptions
+    requires limits { IsWithinLimits words }
+    ensures options { result ≡ run_options (options_of words.entry) }
+    ensures in_range { AreInRange result }
+{
+    SolveOptions {
+        reducers: words.reducers,
+        conflicts: u64::from(words.conflicts),
+        capacity: words.capacity as usize,
+        offer: words.offer,
+        keep_all: words.keep_all,
+    }
+}
+
+/// Reads a formula and decides it, beside so many reducers as the options say.
+fn solve<R: Threads + Wait + Sync, A: Source, C: Sink, D: Sink, G: Gate>(
+    rt: &R,
     alloc: Global,
+    options: &SolveOptions,
     cnf: &mut A,
     out: &mut C,
     proof: &mut D,
+    gate: &G,
 ) -> Report
-    ensures solves { Solves
+    requires in_range { AreInRange options.now }
+    ensures solves { Solves options.now
+        (streams (A.left cnf.old) (A.faults cnf.old)
+        (C.written out.old) (C.faults out.old) (D.written proof.old) (D.faults proof.old))
+        (streams (A.left cnf.new) (A.faults cnf.new)
+        (C.written out.new) (C.faults out.new) (D.written proof.new) (D.faults proof.new))
+        result }
+    ensures proof { SparesProof result.status → proof.new ≡ proof.old }
+    ensures out { result.status ≡ Status.ReadFault → out.new ≡ out.old }
+    ensures calm { IsWellRead result.status → A.faults cnf.new ≡ A.faults cnf.old }
+{
+    if options.reducers == 0 {
+        return run_alone(alloc, options, cnf, out, proof);
+    }
+    run_beside(rt, alloc, options, cnf, out, proof, gate)
+}
+
+/// Reads a formula and decides it beside reducers.
+fn run_beside<R: Threads + Wait + Sync, A: Source, C: Sink, D: Sink, G: Gate>(
+    rt: &R,
+    alloc: Global,
+    options: &SolveOptions,
+    cnf: &mut A,
+    out: &mut C,
+    proof: &mut D,
+    gate: &G,
+) -> Report
+    requires in_range { AreInRange options.now }
+    ensures solves { Solves options.now
         (streams (A.left cnf.old) (A.faults cnf.old)
         (C.written out.old) (C.faults out.old) (D.written proof.old) (D.faults proof.old))
         (streams (A.left cnf.new) (A.faults cnf.new)
@@ -83,7 +152,7 @@ fn solve<A: Source, C: Sink, D: Sink>(
     ensures calm { IsWellRead result.status → A.faults cnf.new ≡ A.faults cnf.old }
 {
     match read(alloc, cnf, &PROGRAM_LIMITS) {
-        Ok(formula) => answer(alloc, &formula, out, proof),
+        Ok(formula) => answer_beside(rt, alloc, options, &formula, out, proof, gate),
         Err(ReadError::Grammar(fault)) => ended(
             alloc,
             write_fault(fault, out),
@@ -94,51 +163,127 @@ fn solve<A: Source, C: Sink, D: Sink>(
     }
 }
 
-/// Decides the formula and tells the verdict.
-fn answer<C: Sink, D: Sink>(alloc: Global, formula: &Formula, out: &mut C, proof: &mut D) -> Report
-    ensures answers { Answers formula.now
+/// Reads a formula and decides it on one thread, or tells why there is no answer: the command `solve` without reducers,
+/// once its words are read. `cnf` is read to the end of the formula, the lines of a refutation are written to `proof`, and
+/// then the verdict to `out`. It waits for nothing.
+pub fn run_alone<A: Source, C: Sink, D: Sink>(
+    alloc: Global,
+    options: &SolveOptions,
+    cnf: &mut A,
+    out: &mut C,
+    proof: &mut D,
+) -> Report
+    requires alone { options.now.reducers ≡ 0 }
+    requires in_range { AreInRange options.now }
+    ensures solves { Solves options.now
+        (streams (A.left cnf.old) (A.faults cnf.old)
+        (C.written out.old) (C.faults out.old) (D.written proof.old) (D.faults proof.old))
+        (streams (A.left cnf.new) (A.faults cnf.new)
+        (C.written out.new) (C.faults out.new) (D.written proof.new) (D.faults proof.new))
+        result }
+    ensures proof { SparesProof result.status → proof.new ≡ proof.old }
+    ensures out { result.status ≡ Status.ReadFault → out.new ≡ out.old }
+    ensures calm { IsWellRead result.status → A.faults cnf.new ≡ A.faults cnf.old }
+{
+    match read(alloc, cnf, &PROGRAM_LIMITS) {
+        Ok(formula) => answer_alone(alloc, options, &formula, out, proof),
+        Err(ReadError::Grammar(fault)) => ended(
+            alloc,
+            write_fault(fault, out),
+            Status::Grammar(fault),
+        ),
+        Err(ReadError::ReadFault) => Report::bare(alloc, Status::ReadFault),
+        Err(ReadError::OutOfMemory) => Report::bare(alloc, Status::OutOfMemory),
+    }
+}
+
+/// Decides the formula on one thread, and tells the verdict.
+fn answer_alone<C: Sink, D: Sink>(
+    alloc: Global,
+    options: &SolveOptions,
+    formula: &Formula,
+    out: &mut C,
+    proof: &mut D,
+) -> Report
+    requires alone { options.now.reducers ≡ 0 }
+    requires in_range { AreInRange options.now }
+    ensures answers { Answers formula.now options.now
         (sinks (C.written out.old) (C.faults out.old) (D.written proof.old) (D.faults proof.old))
         (sinks (C.written out.new) (C.faults out.new) (D.written proof.new) (D.faults proof.new))
         result }
     ensures proof { SparesProof result.status → proof.new ≡ proof.old }
 {
-    match decide(alloc, formula) {
-        Ok(Decision::Satisfiable(model)) => match write_model(&model, out) {
-            Ok(()) => Report {
-                status: Status::Satisfiable,
-                model,
-                log: LogLines::new(alloc),
-            },
-            Err(failed) => Report::bare(alloc, cut_status(failed)),
-        },
-        Ok(Decision::Unsatisfiable(log)) => match write_refutation(log.all(), out, proof) {
-            Ok(()) => Report {
-                status: Status::Unsatisfiable,
-                model: Assignment::empty(alloc),
-                log,
-            },
-            Err(failed) => Report::bare(alloc, cut_status(failed)),
-        },
+    match solve_alone(alloc, formula, options) {
+        Ok(ran) => tell(alloc, ran, out, proof),
         Err(_) => Report::bare(alloc, Status::OutOfMemory),
     }
 }
 
-/// Writes a proof log, and then the verdict on it.
+/// Decides the formula beside reducers, and tells the verdict.
+fn answer_beside<R: Threads + Wait + Sync, C: Sink, D: Sink, G: Gate>(
+    rt: &R,
+    alloc: Global,
+    options: &SolveOptions,
+    formula: &Formula,
+    out: &mut C,
+    proof: &mut D,
+    gate: &G,
+) -> Report
+    requires in_range { AreInRange options.now }
+    ensures answers { Answers formula.now options.now
+        (sinks (C.written out.old) (C.faults out.old) (D.written proof.old) (D.faults proof.old))
+        (sinks (C.written out.new) (C.faults out.new) (D.written proof.new) (D.faults proof.new))
+        result }
+    ensures proof { SparesProof result.status → proof.new ≡ proof.old }
+{
+    match solve_shared(rt, alloc, formula, options, gate) {
+        Ok(ran) => tell(alloc, ran, out, proof),
+        Err(_) => Report::bare(alloc, Status::OutOfMemory),
+    }
+}
+
+/// Tells what a run found.
+fn tell<C: Sink, D: Sink>(alloc: Global, ran: Ran, out: &mut C, proof: &mut D) -> Report
+    requires ids { All HasIds (lines_in ran.diary) }
+    ensures answers { (f : Cnf) (o : SolveOptions) → IsRan f o ran
+        → All (IsOfferedUpTo o.offer) ran.diary.entries → Answers f o
+        (sinks (C.written out.old) (C.faults out.old) (D.written proof.old) (D.faults proof.old))
+        (sinks (C.written out.new) (C.faults out.new) (D.written proof.new) (D.faults proof.new))
+        result }
+    ensures proof { SparesProof result.status → proof.new ≡ proof.old }
+{
+    match ran.verdict {
+        Verdict::Satisfiable => {
+            let done = write_model(&ran.model, out);
+            reported(alloc, done, Status::Satisfiable, ran)
+        }
+        Verdict::Unsatisfiable => {
+            let done = write_refutation(&ran.diary, out, proof);
+            reported(alloc, done, Status::Unsatisfiable, ran)
+        }
+        Verdict::Unknown => {
+            let done = write_unknown(out);
+            reported(alloc, done, Status::Unknown, ran)
+        }
+    }
+}
+
+/// Writes the proof log of a history, and then the verdict on it.
 fn write_refutation<C: Sink, D: Sink>(
-    lines: &[Line],
+    diary: &Diary,
     out: &mut C,
     proof: &mut D,
 ) -> Result<(), SinkError>
-    requires { All HasIds lines.now }
-    ensures ok { OnOk result (TellsRefutation lines.now
+    requires { All HasIds (lines_in diary.now) }
+    ensures ok { OnOk result (TellsRefutation (lines_in diary.now)
         (sinks (C.written out.old) (C.faults out.old) (D.written proof.old) (D.faults proof.old))
         (sinks (C.written out.new) (C.faults out.new) (D.written proof.new) (D.faults proof.new))) }
-    ensures err { IfErr result (CutRefutation lines.now
+    ensures err { IfErr result (CutRefutation (lines_in diary.now)
         (sinks (C.written out.old) (C.faults out.old) (D.written proof.old) (D.faults proof.old))
         (sinks (C.written out.new) (C.faults out.new) (D.written proof.new) (D.faults proof.new))) }
 {
     // The log is whole before the verdict begins: no verdict stands over a torn log.
-    match write_log(lines, proof) {
+    match write_history(diary, proof) {
         Ok(()) => write_unsatisfiable(out),
         Err(failed) => Err(failed),
     }

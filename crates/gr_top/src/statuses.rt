@@ -47,8 +47,10 @@ pub enum LogFault {
 pub enum Status {
     /// The report's model satisfies every clause.
     Satisfiable,
-    /// No assignment satisfies the formula: the report's log is accepted.
+    /// No assignment satisfies the formula: the log of the report's diary is accepted.
     Unsatisfiable,
+    /// As many clauses were learnt as the options allow, and the formula is not decided.
+    Unknown,
     /// Each line of the proof log is accepted, and one adds the empty clause: no assignment satisfies the formula.
     Verified,
     /// The proof log proves nothing.
@@ -81,6 +83,7 @@ pub fn code(status: &Status) -> u8
     match status {
         Status::Satisfiable => 10,
         Status::Unsatisfiable => 20,
+        Status::Unknown => 0,
         Status::Verified => 0,
         Status::NotVerified(_) => 1,
         Status::Usage => 2,

@@ -1,8 +1,6 @@
-// The texts of the output and of the proof log.
-ghost use Rattle.std.specs.Prelude.{◌≡◌, ◌<◌, ◌≤◌, ◌++◌, length, All, IfErr, OnOk, OnErr};
+// The texts of the output.
+ghost use Rattle.std.specs.Prelude.{◌≡◌, ◌<◌, ◌≤◌, ◌++◌, length, IfErr, OnOk, OnErr};
 ghost use Rattle.gr_io.specs.Pieces.{Gains, GainsPart, Rose};
-ghost use Rattle.gr_logic.specs.Log.{HasIds};
-ghost use Rattle.gr_lrat.specs.Writing.{log_text};
 ghost use Rattle.gr_text.specs.Printing.{Prints};
 ghost use Rattle.gr_top.specs.Texts.{
   gap,
@@ -12,6 +10,7 @@ ghost use Rattle.gr_top.specs.Texts.{
   true_literals,
   satisfiable_text,
   unsatisfiable_line,
+  unknown_line,
   kind_line,
   fault_text,
   usage_text,
@@ -19,8 +18,7 @@ ghost use Rattle.gr_top.specs.Texts.{
 
 use gr_dimacs::{FaultKind, GrammarFault};
 use gr_io::{Sink, SinkError};
-use gr_logic::{Assignment, Line, Lit};
-use gr_lrat::write_line;
+use gr_logic::{Assignment, Lit};
 use gr_text::Printer;
 use itoa::Buffer;
 
@@ -34,7 +32,12 @@ pub fn write_usage<K: Sink>(out: &mut K) -> Result<(), SinkError>
     ensures fault { IfErr result (λ e. e ≡ SinkError.Fault → Rose (K.faults out.old) (K.faults out.new)) }
     ensures grows { K.faults out.old ≤ K.faults out.new }
 {
-    out.write(b"c usage: glucored solve CNF LOG\nc usage: glucored check CNF LOG\n")
+    out.write(
+        b"c usage: glucored solve CNF LOG [--reducers N] [--conflicts N] [--capacity N] [--offer N] [--keep-all]
+c usage: glucored check CNF LOG
+c usage: glucored large KIND N
+",
+    )
 }
 
 /// Writes the verdict that no assignment satisfies the formula.
@@ -45,6 +48,16 @@ pub fn write_unsatisfiable<K: Sink>(out: &mut K) -> Result<(), SinkError>
     ensures grows { K.faults out.old ≤ K.faults out.new }
 {
     out.write(b"s UNSATISFIABLE\n")
+}
+
+/// Writes the verdict that the limit was spent.
+pub fn write_unknown<K: Sink>(out: &mut K) -> Result<(), SinkError>
+    ensures ok { OnOk result (Gains (unknown_line) (K.written out.old) (K.written out.new)) }
+    ensures err { OnErr result (GainsPart (unknown_line) (K.written out.old) (K.written out.new)) }
+    ensures fault { IfErr result (λ e. e ≡ SinkError.Fault → Rose (K.faults out.old) (K.faults out.new)) }
+    ensures grows { K.faults out.old ≤ K.faults out.new }
+{
+    out.write(b"s UNKNOWN\n")
 }
 
 /// Writes the first fault of the formula's text.
@@ -194,41 +207,4 @@ fn print_literal<K: Sink>(
 {
     printer.bytes(gap(place).as_bytes())?;
     printer.number(i64::from(lit.number()))
-}
-
-/// Writes the lines of a proof log.
-pub fn write_log<K: Sink>(lines: &[Line], proof: &mut K) -> Result<(), SinkError>
-    requires { All HasIds lines.now }
-    ensures ok { OnOk result (Gains (log_text lines.now) (K.written proof.old) (K.written proof.new)) }
-    ensures err { OnErr result (GainsPart (log_text lines.now) (K.written proof.old) (K.written proof.new)) }
-    ensures fault { IfErr result (λ e. e ≡ SinkError.Fault → Rose (K.faults proof.old) (K.faults proof.new)) }
-    ensures grows { K.faults proof.old ≤ K.faults proof.new }
-{
-    let mut printer = Printer::new(proof);
-    match print_log(lines, &mut printer) {
-        Ok(()) => printer.flush(),
-        Err(failed) => Err(failed),
-    }
-}
-
-/// Prints the lines of a proof log.
-fn print_log<K: Sink>(lines: &[Line], printer: &mut Printer<'_, K>) -> Result<(), SinkError>
-    requires { All HasIds lines.now }
-    ensures same { printer.new.sink.ghost_name ≡ printer.old.sink.ghost_name }
-    ensures ok { OnOk result (Prints (log_text lines.now)
-        (K.written printer.old.sink.now) printer.old.pending
-        (K.written printer.new.sink.now) printer.new.pending) }
-    ensures err { OnErr result (GainsPart (printer.old.pending ++ log_text lines.now)
-        (K.written printer.old.sink.now) (K.written printer.new.sink.now)) }
-    ensures fault { IfErr result (λ e. e ≡ SinkError.Fault →
-        Rose (K.faults printer.old.sink.now) (K.faults printer.new.sink.now)) }
-    ensures grows { K.faults printer.old.sink.now ≤ K.faults printer.new.sink.now }
-{
-    for line in lines {
-        match write_line(line, printer) {
-            Ok(()) => {}
-            Err(failed) => return Err(failed),
-        }
-    }
-    Ok(())
 }

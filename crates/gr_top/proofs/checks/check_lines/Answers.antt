@@ -1,4 +1,4 @@
-use Rattle.std.proofs.Common.{◌≡◌, ◌≤◌, ◌∙◌, refl, arith}
+use Rattle.std.proofs.Common.{◌∙◌, refl, arith}
 use Rattle.gr_top.specs.CheckedLogs.{shown}
 use Rattle.gr_top.proofs.JudgedLogs.{reads-on, begins, line-on, finish-gives, unread-gives, calm-unread, on-ok, refused-gives, rose-since}
 use Rattle.gr_top.proofs.checks.check_lines.Goals as goal

@@ -1,4 +1,4 @@
-use Rattle.std.proofs.Common.{◌≡◌, refl}
+use Rattle.std.proofs.Common.{refl}
 use Rattle.gr_top.specs.Checking.{sources}
 use Rattle.gr_top.proofs.JudgedLogs.{both-calm}
 use Rattle.gr_top.proofs.Checked.{log-judges, short-judges, unread-judges}

@@ -1,4 +1,4 @@
-use Rattle.std.proofs.Common.{◌≡◌, ◌∙◌, refl, sym}
+use Rattle.std.proofs.Common.{◌∙◌, refl, sym}
 use Rattle.gr_top.proofs.JudgedLogs.{stopped-unread}
 use Rattle.gr_top.proofs.Checked.{told-checks, stopped-checks, due-is-no-read-fault}
 use Rattle.gr_top.proofs.checks.run_check.Goals as goal
@@ -12,7 +12,7 @@ returns-in-Ok-clause-checks g c =
 pub returns-in-Err-clause-checks : goal.returns-in-Err-clause-checks
 returns-in-Err-clause-checks g c =
     stopped-checks c.in-Err.stopped _ _ _ _ c.bare.result c.in-Err.ensures.judges refl
-    (c.bare.ensures.status ∙ c.stop_status.ensures) (record { model = c.bare.ensures.model; log = c.bare.ensures.log })
+    (c.bare.ensures.status ∙ c.stop_status.ensures) (record { model = c.bare.ensures.model; diary = c.bare.ensures.diary })
 
 pub returns-in-Ok-clause-out : goal.returns-in-Ok-clause-out
 returns-in-Ok-clause-out g c is =

@@ -1,4 +1,4 @@
-use Rattle.std.proofs.Common.{◌≡◌, ◌∙◌, ◌++◌, ◌∷◌, [], ap, subst, ℕ, List}
+use Rattle.std.proofs.Common.{◌∙◌, ◌++◌, ◌∷◌, [], ap}
 use Rattle.std.specs.Fmt.{decimal}
 use Rattle.gr_top.specs.CheckTexts.{cause_name, cause_id}
 use Rattle.gr_lrat.proofs.Printed.{part-longer, ok-third, err-third, second-failed}

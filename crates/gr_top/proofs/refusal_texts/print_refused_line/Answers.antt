@@ -1,4 +1,4 @@
-use Rattle.std.proofs.Common.{◌≡◌, ◌∙◌, ◌++◌, subst, ℕ, List}
+use Rattle.std.proofs.Common.{◌∙◌, ◌++◌, ℕ, List}
 use Rattle.std.specs.Prelude.{codes}
 use Rattle.std.specs.Fmt.{decimal}
 use Rattle.gr_top.specs.CheckTexts.{not_verified_line, cause_text}

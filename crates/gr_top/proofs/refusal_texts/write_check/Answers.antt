@@ -1,4 +1,3 @@
-use Rattle.std.proofs.Common.{◌≡◌}
 use Rattle.gr_top.proofs.refusal_texts.write_check.Goals as goal
 
 pub returns-in-NotVerified-clause-ok : goal.returns-in-NotVerified-clause-ok

@@ -1,4 +1,3 @@
-use Rattle.std.proofs.Common.{◌≡◌}
 use Rattle.gr_top.proofs.refusal_texts.write_not_verified.Goals as goal
 
 pub returns-in-Line-clause-ok : goal.returns-in-Line-clause-ok

@@ -1,5 +1,4 @@
-use Rattle.std.specs.Prelude.{codes}
-use Rattle.gr_top.specs.Texts.{satisfiable_text, literals_text, true_literals}
+use Rattle.gr_top.specs.Texts.{literals_text, true_literals}
 use Rattle.gr_lrat.proofs.Printed.{part-longer, ok-then, err-then}
 use Rattle.gr_top.proofs.Pieces.{on-err}
 use Rattle.gr_top.proofs.texts.print_model.Goals as goal

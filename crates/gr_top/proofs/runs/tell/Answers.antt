@@ -1,0 +1,24 @@
+use Rattle.std.proofs.Common.{refl}
+use Rattle.gr_top.proofs.Reported.{model-answers, refutation-answers, unknown-answers}
+use Rattle.gr_top.proofs.runs.tell.Goals as goal
+
+pub returns-in-Satisfiable-clause-answers : goal.returns-in-Satisfiable-clause-answers
+returns-in-Satisfiable-clause-answers g c f o is offered =
+    model-answers f o c.args.ran is offered _ _
+    c.reported.result c.write_model-done.result c.in-Satisfiable.is c.write_model-done.ensures.ok
+    c.write_model-done.ensures.err c.write_model-done.ensures.fault refl
+    c.reported.ensures.status c.reported.ensures.reports
+
+pub returns-in-Unsatisfiable-clause-answers : goal.returns-in-Unsatisfiable-clause-answers
+returns-in-Unsatisfiable-clause-answers g c f o is offered =
+    refutation-answers f o c.args.ran is offered
+    _ _ c.reported-in-Unsatisfiable.result c.write_refutation-done.result c.in-Unsatisfiable.is
+    c.write_refutation-done.ensures.ok c.write_refutation-done.ensures.err
+    c.reported-in-Unsatisfiable.ensures.status c.reported-in-Unsatisfiable.ensures.reports
+
+pub returns-in-Unknown-clause-answers : goal.returns-in-Unknown-clause-answers
+returns-in-Unknown-clause-answers g c f o is offered =
+    unknown-answers f o c.args.ran is offered _ _
+    c.reported-in-Unknown.result c.write_unknown-done.result c.in-Unknown.is c.write_unknown-done.ensures.ok
+    c.write_unknown-done.ensures.err c.write_unknown-done.ensures.fault refl
+    c.reported-in-Unknown.ensures.status c.reported-in-Unknown.ensures.reports
