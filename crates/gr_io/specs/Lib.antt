@@ -1,3 +1,4 @@
 pub mod Pieces
 pub mod Memory
 pub mod Files
+pub mod Repeats
