@@ -3,7 +3,7 @@ ghost use Rattle.std.specs.Prelude.{◌≤◌};
 ghost use Rattle.gr_dimacs.specs.Reads.{IsLawful};
 
 use crate::{FaultKind, GrammarFault, Limits, PROGRAM_LIMITS, ReadError, read, write};
-use gr_io::{MemSink, MemSource, SinkError, Source, TextSink};
+use gr_io::{MemSink, MemSource, Repeat, SinkError, Source, TextSink};
 use std::alloc::Global;
 use std::test::Fail;
 
@@ -163,6 +163,27 @@ fn each_limit_is_kept(rt: HostRuntime) -> Result<(), Fail> {
     assert_eq!(rt;
         limited(alloc, b"p cnf 3 4\n", 5, 99)?,
         at(FaultKind::TooLarge, 1)
+    );
+    Ok(())
+}
+
+#[test]
+fn an_endless_comment_is_too_long(rt: HostRuntime) -> Result<(), Fail> {
+    let alloc = rt.alloc();
+    let limits = Limits {
+        vars: 3,
+        clauses: 3,
+        literals: 5,
+        bytes: 100,
+    };
+    let mut device = Repeat::new(Vec::from_slice(alloc, b"c x ")?);
+    let got = match read(alloc, &mut device, &limits) {
+        Ok(_) => None,
+        Err(failed) => Some(failed),
+    };
+    assert!(rt;
+        got == at(FaultKind::TooLong, 1).map(ReadError::Grammar),
+        "{got:?}"
     );
     Ok(())
 }

@@ -52,6 +52,7 @@ end_below (AtBadLine n) = AtBadLine (n + 1)
 end_below (AtRatHint n) = AtRatHint (n + 1)
 end_below (AtLimit n) = AtLimit (n + 1)
 
+-- a line whose number is greater by one
 abbrev pub line_below : NumberedLine → NumberedLine
 line_below x = record { number = x.number + 1; line = x.line }
 

@@ -1,6 +1,6 @@
 // Logs that are read and written, compared with tables made by hand.
 use crate::{LineError, LineReader, Numbered, write_line};
-use gr_io::{MemSource, Sink, Source, TextSink, TextSource};
+use gr_io::{MemSource, Repeat, Sink, Source, TextSink, TextSource};
 use gr_logic::{Clause, Ids, Line, Lit};
 use gr_text::Printer;
 use std::alloc::Global;
@@ -254,6 +254,15 @@ fn keeps_the_limit_on_bytes(rt: HostRuntime) -> Result<(), Fail> {
             "{text:?}, at most {most} bytes"
         );
     }
+    Ok(())
+}
+
+#[test]
+fn an_endless_line_is_too_long(rt: HostRuntime) -> Result<(), Fail> {
+    let alloc = rt.alloc();
+    let mut device = Repeat::new(Vec::from_slice(alloc, b"5 ")?);
+    let told = tell_all(alloc, &mut device, 50)?;
+    assert_eq!(rt; told.as_slice(), b"1 is too long\n".as_slice());
     Ok(())
 }
 
