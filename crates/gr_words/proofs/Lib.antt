@@ -3,3 +3,4 @@ pub mod Entries
 pub mod OptionReads
 pub mod Naming
 pub mod Cases
+pub mod Matching

@@ -1,11 +1,12 @@
-use Rattle.std.proofs.Common.{◌≡◌, ◌∙◌, arith, refl, sym, ap, subst, inr, true, false, codes, map}
+use Rattle.std.proofs.Common.{◌≡◌, ◌∙◌, arith, refl, subst, inr, false, codes, map}
 use Rattle.std.specs.Prelude.{pos, string_bytes}
-use Rattle.clap.specs.Words.{App, app_of, is_simple, is_simple_and_free, fault_of, matches_of, found_of, rows_of}
+use Rattle.clap.specs.Words.{app_of, found_of, rows_of}
 use Rattle.clap.specs.declared.builder.ValueParser.TheVariants as value_parser
 use Rattle.gr_words.specs.Commands.{large_app, number_rule, text_rule}
 use Rattle.gr_words.specs.Meanings.{Making, making}
 use Rattle.gr_words.specs.Calls.{can_be_made}
 use Rattle.gr_words.proofs.OptionReads.{text_given, required_read}
+use Rattle.gr_words.proofs.Matching.{faultless, rows_are}
 use Rattle.gr_words.proofs.reading.read_large.Goals as goal
 
 pub text_at-kind-requires : goal.text_at-kind-requires
@@ -21,17 +22,14 @@ number_at-n-requires c =
 
 pub returns-in-Some-clause-lawful : goal.returns-in-Some-clause-lawful
 returns-in-Some-clause-lawful c =
-    let free : is_simple_and_free (app_of c.in-Ok.command) ≡ true = ap is_simple_and_free c.in-Ok.ensures in
-    let clean = c.in-Ok-try_get_matches_from.ensures.kinds free in
-    ap (λ (a : App). fault_of a (map string_bytes c.args.words.now)) (sym c.in-Ok.ensures) ∙ clean
+    faultless (app_of c.in-Ok.command) large_app (map string_bytes c.args.words.now) c.in-Ok.ensures refl
+    c.in-Ok-try_get_matches_from.ensures.kinds
 
 pub returns-in-Some-clause-meaning : goal.returns-in-Some-clause-meaning
 returns-in-Some-clause-meaning c =
-    let simple : is_simple (app_of c.in-Ok.command) ≡ true = ap is_simple c.in-Ok.ensures in
-    let rows = (c.in-Ok-try_get_matches_from.ensures.matches simple).0 in
-    let as_command : rows_of (found_of c.in-Ok-try_get_matches_from.matches)
-    ≡ matches_of large_app (map string_bytes c.args.words.now) =
-    rows ∙ ap (λ (a : App). matches_of a (map string_bytes c.args.words.now)) c.in-Ok.ensures in
+    let as_command = rows_are (app_of c.in-Ok.command) large_app (map string_bytes c.args.words.now)
+    (rows_of (found_of c.in-Ok-try_get_matches_from.matches)) c.in-Ok.ensures refl
+    (λ simple. (c.in-Ok-try_get_matches_from.ensures.matches simple).0) in
     let meant : ◌≡◌ {A = Making} (record { kind = c.text_at-kind.result.now; n = c.number_at-n.result })
     (making (map string_bytes c.args.words.now)) =
     rw (← as_command, c.text_at-kind.ensures, ← c.number_at-n.ensures.value) refl in
@@ -39,11 +37,9 @@ returns-in-Some-clause-meaning c =
 
 pub returns-clause-usage : goal.returns-clause-usage
 returns-clause-usage c _ =
-    let simple : is_simple (app_of c.in-Ok.command) ≡ true = ap is_simple c.in-Ok.ensures in
-    let rows = (c.in-Ok-try_get_matches_from.ensures.matches simple).0 in
-    let as_command : rows_of (found_of c.in-Ok-try_get_matches_from.matches)
-    ≡ matches_of large_app (map string_bytes c.args.words.now) =
-    rows ∙ ap (λ (a : App). matches_of a (map string_bytes c.args.words.now)) c.in-Ok.ensures in
+    let as_command = rows_are (app_of c.in-Ok.command) large_app (map string_bytes c.args.words.now)
+    (rows_of (found_of c.in-Ok-try_get_matches_from.matches)) c.in-Ok.ensures refl
+    (λ simple. (c.in-Ok-try_get_matches_from.ensures.matches simple).0) in
     let meant : ◌≡◌ {A = Making} (record { kind = c.text_at-kind.result.now; n = c.number_at-n.result })
     (making (map string_bytes c.args.words.now)) =
     rw (← as_command, c.text_at-kind.ensures, ← c.number_at-n.ensures.value) refl in

@@ -1,10 +1,11 @@
-use Rattle.std.proofs.Common.{◌≡◌, ◌∙◌, arith, refl, sym, ap, true, codes, map}
+use Rattle.std.proofs.Common.{◌≡◌, ◌∙◌, arith, refl, ap, codes, map}
 use Rattle.std.specs.Prelude.{pos, string_bytes}
-use Rattle.clap.specs.Words.{App, app_of, is_simple, is_simple_and_free, fault_of, matches_of, found_of, rows_of}
+use Rattle.clap.specs.Words.{app_of, found_of, rows_of}
 use Rattle.clap.specs.declared.builder.ValueParser.TheVariants as value_parser
 use Rattle.gr_words.specs.Commands.{solve_app, option_rule, reducers_rule, text_rule, most_reducers}
 use Rattle.gr_words.specs.Meanings.{solving_in}
 use Rattle.gr_words.proofs.OptionReads.{text_given, option_read}
+use Rattle.gr_words.proofs.Matching.{faultless, rows_are}
 use Rattle.gr_words.proofs.reading.read_solve.Goals as goal
 
 pub text_at-requires : goal.text_at-requires
@@ -46,17 +47,14 @@ number_at-requires-4 c =
 
 pub returns-clause-lawful : goal.returns-clause-lawful
 returns-clause-lawful c =
-    let free : is_simple_and_free (app_of c.in-Ok.command) ≡ true = ap is_simple_and_free c.in-Ok.ensures in
-    let clean = c.in-Ok-try_get_matches_from.ensures.kinds free in
-    ap (λ (a : App). fault_of a (map string_bytes c.args.words.now)) (sym c.in-Ok.ensures) ∙ clean
+    faultless (app_of c.in-Ok.command) solve_app (map string_bytes c.args.words.now) c.in-Ok.ensures refl
+    c.in-Ok-try_get_matches_from.ensures.kinds
 
 pub returns-clause-meaning : goal.returns-clause-meaning
 returns-clause-meaning c =
-    let simple : is_simple (app_of c.in-Ok.command) ≡ true = ap is_simple c.in-Ok.ensures in
-    let rows = (c.in-Ok-try_get_matches_from.ensures.matches simple).0 in
-    let as_command : rows_of (found_of c.in-Ok-try_get_matches_from.matches)
-    ≡ matches_of solve_app (map string_bytes c.args.words.now) =
-    rows ∙ ap (λ (a : App). matches_of a (map string_bytes c.args.words.now)) c.in-Ok.ensures in
+    let as_command = rows_are (app_of c.in-Ok.command) solve_app (map string_bytes c.args.words.now)
+    (rows_of (found_of c.in-Ok-try_get_matches_from.matches)) c.in-Ok.ensures refl
+    (λ simple. (c.in-Ok-try_get_matches_from.ensures.matches simple).0) in
     let read : record {
       cnf = c.text_at.result.now;
       log = c.text_at-2.result.now;
