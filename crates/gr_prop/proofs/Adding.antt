@@ -1,5 +1,5 @@
 -- a clause comes in: the base with one clause more
-use Rattle.std.proofs.Common.{◌≡◌, ◌≢◌, ◌⊎◌, ℕ, ◌+◌, ◌<◌, ◌≤◌, Bool, true, false, ◌||◌, All, List, [], ◌∷◌, ◌++◌, Some, None, IsSome, take, drop, length, refl, sym, ap, ◌∙◌, subst, inl, inr, arith, nat_eq, if◌then◌else◌}
+use Rattle.std.proofs.Common.{◌≡◌, ◌≢◌, ◌⊎◌, ℕ, ◌<◌, ◌≤◌, true, false, ◌||◌, All, List, [], ◌∷◌, ◌++◌, Some, None, IsSome, take, drop, length, refl, sym, ap, ◌∙◌, subst, inl, inr, arith, nat_eq}
 use Rattle.std.proofs.lemmas.Bool.Decides.{nat_tests}
 use Rattle.std.proofs.lemmas.List.{length-append, take-append-le, drop-append-le}
 use Rattle.std.proofs.lemmas.List.Elements.{All-weaker}
@@ -9,7 +9,6 @@ use Rattle.std.specs.List.Sorted.{IsPermutation}
 use Rattle.std.specs.Option.{option_map}
 use Rattle.std.specs.FinMap as finite
 use Rattle.gr_logic.specs.Literals.{Literal, negation, same_literal}
-use Rattle.gr_logic.specs.Codes.{code_of}
 use Rattle.gr_logic.specs.Rup.{LiteralSet, members}
 use Rattle.gr_logic.specs.declared.places.Place.{Place}
 use Rattle.gr_logic.proofs.SameLiteral.{members-first, members-later}

@@ -7,10 +7,10 @@ use Rattle.std.specs.Option.{option_map, unwrap_or, is_some}
 use Rattle.std.specs.Ordering.{nat_cmp}
 use Rattle.std.specs.FinMap as finite
 use Rattle.gr_logic.specs.Literals.{Literal, negation}
-use Rattle.gr_logic.specs.Rup.{LiteralSet, members, with_literal}
+use Rattle.gr_logic.specs.Rup.{LiteralSet, with_literal}
 use Rattle.gr_logic.specs.Closure.{no_literals}
 use Rattle.gr_logic.specs.declared.places.Place.{Place}
-use Rattle.gr_arena.specs.Arenas.{Stored, ArenaState, no_clause, IsCompaction}
+use Rattle.gr_arena.specs.Arenas.{Stored, ArenaState, IsCompaction}
 use Rattle.gr_trail.specs.Trails.{Assigned, TrailState}
 use Rattle.gr_watch.specs.WatchLists.{WatchLists, list_of}
 use Rattle.gr_prop.specs.Bases.{BaseClause, base_clause, clauses_in, family, IsFoundedBy, AreFounded, HasIdAt}
@@ -22,7 +22,7 @@ use Rattle.gr_logic.proofs.SameLiteral.{or-true}
 use Rattle.gr_prop.proofs.Stores.{family-some, get-clauses_in}
 use Rattle.gr_prop.proofs.Counts.{member-there}
 use Rattle.gr_prop.proofs.MovedPairs.{moved-watching}
-use Rattle.gr_prop.proofs.MovedClauses.{moved-lit, moved-level, moved-climbs, moved-some, from-some, place-is, same-lits, there-new, everywhere, moved-count, moved-none, moved-all, moved-founded, moved-in, broken-from, some-value}
+use Rattle.gr_prop.proofs.MovedClauses.{moved-lit, moved-level, moved-climbs, moved-some, from-some, place-is, same-lits, there-new, everywhere, moved-all, moved-founded, moved-in, broken-from, some-value}
 
 module _ (old new : ArenaState) (moves : finite.FinMap nat_cmp ℕ) (c : IsCompaction old new moves)
     (t : TrailState) (ws vs : WatchLists) (places spots : finite.FinMap nat_cmp Place) (head : ℕ)

@@ -1,30 +1,21 @@
 -- the watches of a clause that leaves, for the clauses of either kind
-use Rattle.std.proofs.Common.{◌≡◌, ◌≢◌, ◌⊎◌, ℕ, ◌+◌, ◌-◌, ◌*◌, ◌<◌, ◌≤◌, Bool, true, false, not, ◌&&◌, ◌||◌, All, List, [], ◌∷◌, Option, Some, None, IsSome, get_or, set, take, length, refl, sym, ap, ◌∙◌, subst, inl, inr, arith, nat_eq, suc, if◌then◌else◌, cond}
+use Rattle.std.proofs.Common.{◌≡◌, ◌≢◌, ℕ, ◌+◌, ◌-◌, ◌*◌, ◌<◌, ◌≤◌, Bool, true, false, not, ◌||◌, All, List, [], ◌∷◌, get_or, set, take, length, refl, sym, ap, ◌∙◌, subst, arith, nat_eq, suc, if◌then◌else◌, cond}
 use Rattle.std.proofs.lemmas.Bool.Decides.{nat_tests}
 use Rattle.std.proofs.lemmas.List.{length-set, get_or_default}
-use Rattle.std.proofs.lemmas.List.Elements.{All-head, All-tail, All-nil}
+use Rattle.std.proofs.lemmas.List.Elements.{All-tail}
 use Rattle.std.proofs.lemmas.List.Sums.{sum_by-cons, sum_by-swap_remove}
 use Rattle.std.proofs.lemmas.List.Sorted.{All-permutation, IsPermutation-swap_remove}
 use Rattle.std.specs.List.{list_any, swap_remove}
-use Rattle.std.specs.Option.{option_map, unwrap_or}
-use Rattle.std.specs.FinMap as finite
 use Rattle.gr_logic.specs.Literals.{Literal, same_literal}
 use Rattle.gr_logic.specs.Codes.{code_of}
-use Rattle.gr_logic.specs.Rup.{members}
-use Rattle.gr_logic.specs.Closure.{no_literals}
 use Rattle.gr_logic.specs.declared.places.Place.{Place}
 use Rattle.gr_logic.proofs.Sound.{same_literal-is}
 use Rattle.gr_logic.proofs.SameLiteral.{same_literal-itself}
-use Rattle.gr_arena.specs.Arenas.{Stored}
-use Rattle.gr_trail.specs.Trails.{Assigned, TrailState}
 use Rattle.gr_watch.specs.declared.lists.Watch.{Watch}
 use Rattle.gr_watch.specs.WatchLists.{WatchLists, list_of, no_watch, taken_out, is_at, first_at}
-use Rattle.gr_prop.specs.Bases.{BaseClause, base_clause, clauses_in, family, HasIdAt}
-use Rattle.gr_prop.specs.Watching.{Store, stored_at, lits_at, bit, occurs, count_in, watched, IsWatching, IsBlocked, AreBlocked, IsGuarded, AllFalse, IsReady, IsIndexed, IsKeptBase, is_in}
+use Rattle.gr_prop.specs.Watching.{Store, lits_at, bit, occurs, count_in, watched, IsWatching}
 use Rattle.gr_prop.specs.Additions.{detached, unwatching, IsWatchedByTwo}
-use Rattle.gr_prop.proofs.Closed.{HaveNoReason, founded-with}
-use Rattle.gr_prop.proofs.Stores.{by_place, get-remove-same, get-remove-other, lits-remove, lits-remove-other, clauses-remove, family-at, get-clauses_in, some-is}
-use Rattle.gr_prop.proofs.Counts.{code-low, count-here, list-same, list-other, by_list, not-same}
+use Rattle.gr_prop.proofs.Counts.{code-low, list-same, list-other, by_list, not-same}
 use Rattle.gr_prop.proofs.Forcing.{none-apart}
 
 -- ---- the first watch of a place

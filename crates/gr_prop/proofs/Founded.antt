@@ -1,20 +1,30 @@
 -- reasons and what stands before
-use Rattle.std.proofs.Common.{◌≡◌, ◌≢◌, ◌⊎◌, inl, inr, ℕ, zero, suc, ◌<◌, Bool, true, false, ◌||◌, List, [], ◌∷◌, Option, Some, None, refl, sym, ap, ◌∙◌, subst, arith}
+use Rattle.std.proofs.Common.{◌≡◌, ◌≢◌, ◌⊎◌, inl, inr, ℕ, zero, suc, ◌<◌, true, false, ◌||◌, List, [], ◌∷◌, Option, Some, None, refl, sym, ap, ◌∙◌, subst, arith}
 use Rattle.std.specs.Prelude.{slice_get, IsSome, IfSome}
 use Rattle.std.specs.Option.{option_map, is_some}
 use Rattle.gr_logic.specs.Literals.{Literal, negation, same_literal, var_of}
 use Rattle.gr_logic.specs.Rup.{LiteralSet, with_literal}
-use Rattle.gr_logic.specs.Closure.{ClauseFamily, no_literals, Forces}
+use Rattle.gr_logic.specs.Closure.{ClauseFamily, no_literals}
 use Rattle.gr_logic.proofs.Sound.{same_literal-is}
-use Rattle.gr_logic.proofs.SameLiteral.{same_literal-itself, or-true}
 use Rattle.gr_logic.specs.declared.places.Place.{Place}
-use Rattle.gr_trail.specs.Trails.{Assigned, TrailState, IsTrail, true_in, value_in, assigned_to}
+use Rattle.gr_trail.specs.Trails.{Assigned, IsTrail, true_in, assigned_to}
 use Rattle.gr_prop.specs.Laws.{IsEarlier}
 use Rattle.gr_prop.specs.Bases.{BaseState, BaseClause, family, AreFounded, IsFoundedBy, IsBase}
 use Rattle.std.specs.FinMap as finite
 use Rattle.std.specs.FinSet as set
 use Rattle.gr_trail.proofs.Climbing.{some-is, mapped}
 use Rattle.gr_trail.proofs.Standing.{at-true, stands-at, assigned-at, one-place, is-false}
+
+-- what holds of no assignment, and of one more with what its reason forces, holds of all
+pub founded-each : (k : ClauseFamily) (P : LiteralSet → List Assigned → Type 0)
+    → ((before : LiteralSet) → P before [])
+    → ((before : LiteralSet) (x : Assigned) (xs : List Assigned)
+    → IsFoundedBy k before x.lit x.reason
+    → P (with_literal before x.lit) xs → P before (x ∷ xs))
+    → (before : LiteralSet) (xs : List Assigned) → AreFounded k before xs → P before xs
+founded-each k P none more before [] f = none before
+founded-each k P none more before (x ∷ xs) f =
+    more before x xs f.0 (founded-each k P none more (with_literal before x.lit) xs f.1)
 
 -- the assignment stands before this place, and makes the literal true
 pub record Before (xs : List Assigned) (n : ℕ) (l : Literal) : Type 0 where

@@ -1,19 +1,16 @@
 -- clauses by their places
-use Rattle.std.proofs.Common.{◌≡◌, ℕ, Bool, true, false, cond, ◌||◌, List, [], ◌∷◌, map, Option, Some, None, refl, sym, ap, ◌∙◌, subst}
+use Rattle.std.proofs.Common.{◌≡◌, ℕ, List, Option, Some, None, refl, sym, ap, ◌∙◌, subst}
 use Rattle.std.specs.Prelude.{IsSome}
-use Rattle.std.specs.List.{list_any}
 use Rattle.std.specs.Option.{option_map, unwrap_or, is_some}
-use Rattle.std.specs.Ordering.{nat_cmp, eq_by_cmp}
-use Rattle.std.specs.Cmp.{nat_cmp_total}
+use Rattle.std.specs.Ordering.{nat_cmp}
 use Rattle.std.specs.FinMap as finite
-use Rattle.std.specs.FinSet as set
-use Rattle.gr_logic.specs.Literals.{Literal, same_literal}
-use Rattle.gr_logic.specs.LiteralSets.{literal_cmp}
+use Rattle.gr_logic.specs.Literals.{Literal}
 use Rattle.gr_logic.specs.Rup.{LiteralSet, members}
-use Rattle.gr_logic.proofs.FiniteSets.{literal_cmp_total, eq_by_cmp-literal}
-use Rattle.gr_arena.specs.Arenas.{Stored, no_clause}
-use Rattle.gr_prop.proofs.Stores.{family-at, get-clauses_in}
-use Rattle.gr_prop.specs.Bases.{base_clause, clauses_in, family, BaseClause, Clauses}
+use Rattle.gr_logic.specs.Closure.{Forces}
+use Rattle.gr_logic.specs.declared.places.Place.{Place}
+use Rattle.gr_arena.specs.Arenas.{Stored, ArenaState, Has, at, no_clause}
+use Rattle.gr_prop.proofs.Stores.{family-at, family-some, get-clauses_in, some-is}
+use Rattle.gr_prop.specs.Bases.{base_clause, clauses_in, family, Clauses, IsFoundedBy}
 
 -- where the clauses have a place, so has the arena that they are those of, with these literals
 pub stored-there : (k : finite.FinMap nat_cmp Stored) (clauses : Clauses) (q : ℕ) (c : LiteralSet)
@@ -59,3 +56,18 @@ known-stored P k clauses q lits is there told each =
     go : (o : Option Stored) → IsSome o → finite.get k q ≡ o → P (unwrap_or o no_clause).lits
     go None h e = absurd (cc)
     go (Some s) h e = each q s e
+
+-- what is known of each clause of the arena is known of the one at a place
+pub stored-each : (arena : ArenaState) (place : Place) (P : List Literal → Type 0)
+    → ((p : ℕ) (s : Stored) → finite.get arena.clauses p ≡ Some s → P s.lits)
+    → Has arena place → P (at arena place).lits
+stored-each arena place P each has = each place.0 (at arena place)
+    (some-is arena.clauses place.0 has)
+
+-- a reason is a clause of the arena, and forces its literal
+pub reason-stored : (arena : ArenaState) (before : LiteralSet) (l : Literal) (place : Place)
+    → IsFoundedBy (family (clauses_in arena.clauses)) before l (Some place)
+    → Has arena place × Forces before (members (at arena place).lits) l
+reason-stored arena before l place f =
+    let s = family-some arena.clauses place.0 f.0 f.1.0 in
+    (s.0, subst (λ c. Forces before c l) (sym s.1) f.1.1)

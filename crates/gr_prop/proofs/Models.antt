@@ -1,10 +1,10 @@
 -- where propagation is quiet
-use Rattle.std.proofs.Common.{◌≡◌, ◌≢◌, ◌⊎◌, inl, inr, ℕ, ◌<◌, Bool, true, false, ◌||◌, List, [], ◌∷◌, Option, Some, None, refl, sym, ap, ◌∙◌, subst, if◌then◌else◌}
+use Rattle.std.proofs.Common.{◌≡◌, ◌≢◌, ◌⊎◌, inl, inr, ℕ, ◌<◌, true, false, ◌||◌, List, [], ◌∷◌, Some, None, refl, ap, ◌∙◌, if◌then◌else◌}
 use Rattle.std.specs.Prelude.{All}
 use Rattle.std.proofs.lemmas.List.Elements.{All-head, All-tail}
 use Rattle.gr_logic.specs.Literals.{Literal, negation, same_literal}
 use Rattle.gr_logic.specs.Rup.{LiteralSet, members}
-use Rattle.gr_logic.specs.Closure.{ClauseFamily, InClosure, DerivesConflict, no_literals}
+use Rattle.gr_logic.specs.Closure.{ClauseFamily, InClosure, DerivesConflict}
 use Rattle.gr_logic.proofs.Sound.{same_literal-is}
 use Rattle.gr_logic.proofs.SameLiteral.{members-first, members-later}
 use Rattle.gr_trail.specs.Trails.{Assigned, true_in, value_in}

@@ -1,5 +1,5 @@
 -- the lists of the clauses of either kind where the clauses were moved together
-use Rattle.std.proofs.Common.{◌≡◌, ℕ, true, All, List, [], map, Some, get_or, refl, sym, ap, ◌∙◌, subst, length}
+use Rattle.std.proofs.Common.{◌≡◌, ℕ, All, List, [], map, get_or, refl, sym, ap, ◌∙◌, subst, length}
 use Rattle.std.proofs.lemmas.List.Elements.{All-map}
 use Rattle.std.specs.Ordering.{nat_cmp}
 use Rattle.std.specs.FinMap as finite

@@ -1,21 +1,20 @@
 -- literals that became false pass the lists of their binary clauses
-use Rattle.std.proofs.Common.{◌≡◌, ℕ, zero, suc, ◌+◌, ◌*◌, ◌<◌, ◌≤◌, true, false, All, List, [], ◌∷◌, ◌++◌, Some, None, IsSome, get_or, take, drop, length, refl, sym, ap, ◌∙◌, subst, arith, if◌then◌else◌}
-use Rattle.std.proofs.lemmas.List.{take_more, take_all, get_or_append_left, take-append-le, drop-append-le, length-append}
+use Rattle.std.proofs.Common.{◌≡◌, ℕ, zero, suc, ◌+◌, ◌*◌, ◌<◌, ◌≤◌, true, All, List, [], ◌∷◌, ◌++◌, None, IsSome, get_or, take, drop, length, refl, sym, ap, ◌∙◌, subst, arith, if◌then◌else◌}
+use Rattle.std.proofs.lemmas.List.{take_more, get_or_append_left, take-append-le, drop-append-le, length-append}
 use Rattle.std.proofs.lemmas.List.Elements.{All-weaker, All-push}
 use Rattle.std.specs.FinMap as finite
 use Rattle.gr_logic.specs.Literals.{Literal, negation}
 use Rattle.gr_logic.specs.Rup.{members}
-use Rattle.gr_logic.specs.declared.places.Place.{Place}
 use Rattle.gr_logic.proofs.SameLiteral.{negation-negation}
 use Rattle.gr_trail.specs.Trails.{Assigned, TrailState, true_in, value_in}
 use Rattle.gr_watch.specs.declared.lists.Watch.{Watch}
 use Rattle.gr_watch.specs.WatchLists.{WatchLists, list_of}
 use Rattle.gr_prop.specs.Bases.{clauses_in}
 use Rattle.gr_prop.specs.BaseChanges.{with_forced, IsGrown}
-use Rattle.gr_prop.specs.Watching.{Store, lits_at, count_in, watched, is_pair, paired, IsOther, ArePaired, AreKnown, IsSound, IsReady, IsKept, IsGuarded, AllFalse, AreAt}
+use Rattle.gr_prop.specs.Watching.{Store, lits_at, count_in, watched, paired, IsOther, ArePaired, AreKnown, IsSound, IsReady, IsKept, IsGuarded, AllFalse, AreAt}
 use Rattle.gr_prop.specs.Pairing.{IsPassing, ArePassing, ArePassed, AreMet}
 use Rattle.gr_prop.specs.Walking.{IsProgress}
-use Rattle.gr_prop.proofs.TrailSets.{true_in-more, open-false, true-at, within-at, prefix-within, at-append}
+use Rattle.gr_prop.proofs.TrailSets.{true_in-more, open-false, true-at, within-at, at-append}
 use Rattle.gr_prop.proofs.Kept.{guarded-more}
 use Rattle.gr_prop.proofs.Stores.{family-there}
 use Rattle.gr_prop.proofs.Sound.{sound-forced}

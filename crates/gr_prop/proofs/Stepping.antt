@@ -1,10 +1,9 @@
 -- a step of the walk, by the ending of its visit
-use Rattle.std.proofs.Common.{◌≡◌, ◌⊎◌, ℕ, ◌+◌, ◌-◌, ◌<◌, ◌≤◌, true, false, ◌||◌, All, List, [], ◌∷◌, Some, get_or, set, length, refl, sym, ap, ◌∙◌, subst, inl, inr, arith}
+use Rattle.std.proofs.Common.{◌≡◌, ◌⊎◌, ℕ, ◌+◌, ◌-◌, ◌<◌, ◌≤◌, true, false, All, List, ◌∷◌, Some, get_or, set, length, refl, sym, ap, ◌∙◌, subst, inl, inr, arith}
 use Rattle.std.proofs.lemmas.List.{length-set, take-set, get_or-set_same, length-take-le}
-use Rattle.std.proofs.lemmas.List.Elements.{All-tail, All-weaker}
-use Rattle.gr_logic.proofs.Sound.{same_literal-is}
+use Rattle.std.proofs.lemmas.List.Elements.{All-weaker}
 use Rattle.std.specs.List.{swap_remove}
-use Rattle.gr_logic.specs.Literals.{Literal, negation, same_literal}
+use Rattle.gr_logic.specs.Literals.{Literal, negation}
 use Rattle.gr_logic.specs.Rup.{members}
 use Rattle.gr_logic.proofs.SameLiteral.{members-first}
 use Rattle.gr_trail.specs.Trails.{TrailState, true_in}

@@ -1,8 +1,6 @@
 -- the watch at the index
-use Rattle.std.proofs.Common.{◌≡◌, ◌<◌, ◌≤◌, ◌+◌, true, false, All, List, Option, Some, None, Bool, take, length, get_or, refl, ap, sym, ◌∙◌, subst, arith, if◌then◌else◌}
+use Rattle.std.proofs.Common.{◌≡◌, ◌<◌, ◌≤◌, ◌+◌, true, All, List, Some, None, take, length, get_or, ap, sym, ◌∙◌, subst, arith}
 use Rattle.std.proofs.lemmas.List.{take_all}
-use Rattle.std.specs.Option.{unwrap_or}
-use Rattle.gr_logic.specs.Literals.{negation}
 use Rattle.gr_trail.specs.Trails.{TrailState, true_in, value_in}
 use Rattle.gr_watch.specs.declared.lists.Watch.{Watch}
 use Rattle.gr_watch.specs.WatchLists.{list_of}
@@ -13,7 +11,7 @@ use Rattle.gr_prop.proofs.Keeping.{grown-on}
 use Rattle.gr_prop.proofs.WalkSteps.{forced-progress}
 use Rattle.gr_prop.proofs.TrailSets.{false-value, true-value, true_in-last}
 use Rattle.gr_prop.proofs.Passing.{other-at, other-known, other-false, other-forced, met-more, met-next}
-use Rattle.gr_prop.proofs.pairs.pass_list.Goals.{After-index-list-index, After-value, in-Some-true, in-None}
+use Rattle.gr_prop.proofs.pairs.pass_list.Goals.{After-index-list-index, in-Some-true, in-None}
 use Rattle.gr_prop.proofs.pairs.pass_list.Goals as goal
 
 -- the other literal of a clause stands beside it

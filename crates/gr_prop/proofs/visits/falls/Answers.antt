@@ -1,7 +1,7 @@
 -- a literal whose negation is true is not true
 use Rattle.std.proofs.Common.{◌≡◌, Bool, true, false, not, Option, Some, None, refl, sym, ◌∙◌, if◌then◌else◌}
 use Rattle.gr_logic.specs.Literals.{negation}
-use Rattle.gr_trail.specs.Trails.{true_in, value_in}
+use Rattle.gr_trail.specs.Trails.{true_in}
 use Rattle.gr_trail.proofs.Standing.{not-both}
 use Rattle.gr_prop.proofs.visits.falls.Goals as goal
 

@@ -1,4 +1,4 @@
-use Rattle.std.proofs.Common.{◌≤◌, ◌<◌, ◌++◌, ◌∷◌, [], All, true, false, get_or, refl, sym, ap, ◌∙◌, subst, arith, inl, inr}
+use Rattle.std.proofs.Common.{◌<◌, ◌++◌, ◌∷◌, [], All, true, false, get_or, refl, sym, ap, ◌∙◌, subst, arith, inl, inr}
 use Rattle.gr_logic.specs.Literals.{Literal, negation}
 use Rattle.gr_trail.specs.Trails.{true_in}
 use Rattle.gr_watch.specs.WatchLists.{list_of, with_list}

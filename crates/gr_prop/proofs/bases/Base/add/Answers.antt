@@ -1,7 +1,7 @@
 use Rattle.std.proofs.Common.{length, ◌≡◌, ◌<◌, ◌++◌, ◌∷◌, [], IsSome, None, All, false, true, is_ok, if◌then◌else◌, ap, sym, ◌∙◌, subst, refl, arith}
 use Rattle.std.specs.FinMap as finite
 use Rattle.gr_logic.specs.Literals.{Literal}
-use Rattle.gr_prop.specs.Bases.{BaseState, clauses_in}
+use Rattle.gr_prop.specs.Bases.{BaseState}
 use Rattle.gr_prop.specs.Watching.{lits_at, IsKeptBase, ArePaired}
 use Rattle.gr_trail.specs.Trails.{TrailState}
 use Rattle.gr_prop.specs.Additions.{IsArranged}
@@ -9,7 +9,7 @@ use Rattle.gr_prop.specs.declared.additions.Standing.TheVariants.{Broken, Forced
 use Rattle.gr_prop.proofs.Stores.{get-insert-same, lits-insert}
 use Rattle.gr_prop.proofs.Forcing.{forced-known}
 use Rattle.gr_prop.proofs.Arrivals.{pairs-back, kept-same, kept-broken, kept-forced, added-rests, added-broken, added-forced}
-use Rattle.gr_prop.proofs.bases.Base.add.Answers.Incoming.{few, watched, index-back, kept-at-rest, taken, come, known, lacks, now, pairs-now, stands, as-added}
+use Rattle.gr_prop.proofs.bases.Base.add.Answers.Incoming.{few, watched, index-back, kept-at-rest, taken, come, known, now, pairs-now, stands, as-added}
 use Rattle.gr_prop.proofs.bases.Base.add.Goals.{After-vars-longest, After-lits-lits, After-arrange, After-assess}
 use Rattle.gr_prop.proofs.bases.Base.add.Goals as goal
 mod Incoming

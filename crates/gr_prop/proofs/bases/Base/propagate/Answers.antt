@@ -1,12 +1,11 @@
-use Rattle.std.proofs.Common.{length, arith, ◌≤◌, ◌+◌, ◌≡◌, ◌<◌, [], false, refl, sym, ap, ◌∙◌, subst}
-use Rattle.std.specs.List.{slice_get}
+use Rattle.std.proofs.Common.{arith, refl, ap, subst}
 use Rattle.gr_prop.specs.BaseChanges.{IsGrown}
 use Rattle.gr_prop.specs.Watching.{IsReady}
 use Rattle.gr_prop.proofs.WalkSteps.{grown-itself}
 use Rattle.gr_prop.proofs.Passing.{passed-first, passing-begins}
 use Rattle.gr_prop.proofs.Keeping.{decisions-grown}
 use Rattle.gr_prop.proofs.bases.Base.propagate.Answers.Endings.{kept-broken, ends-broken, kept-pair, ends-pair, kept-cut, kept-found, ends-found, kept-ended}
-use Rattle.gr_prop.proofs.bases.Base.propagate.Answers.Queue.{passed-ready, passed-paired, passed-grown, ahead-low, ahead-high, passed-ahead, paired-still, decisions-still, none-broken, gone-known, walks, goes-on, stopped, stopped-broken, indexed-still, clauses-still, grown-still, found-there, found-false, ended, closes}
+use Rattle.gr_prop.proofs.bases.Base.propagate.Answers.Queue.{passed-grown, ahead-low, ahead-high, passed-ahead, paired-still, decisions-still, none-broken, gone-known, walks, goes-on, indexed-still, clauses-still, grown-still, closes}
 use Rattle.gr_prop.proofs.bases.Base.propagate.Goals.{After-pass, After-negate-gone, After-take-list, After-put, After-loop-self, In-Some, In-Some-pass, In-Some-2, In-None, In_default}
 use Rattle.gr_prop.proofs.bases.Base.propagate.Goals as goal
 mod Queue

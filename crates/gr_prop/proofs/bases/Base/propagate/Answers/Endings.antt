@@ -1,5 +1,5 @@
 -- what a base keeps where propagation ends, and how it ends at a false clause
-use Rattle.std.proofs.Common.{false, [], Some, None, true, refl, sym, subst}
+use Rattle.std.proofs.Common.{false, [], Some, true, refl, sym, subst}
 use Rattle.gr_prop.specs.Bases.{clauses_in}
 use Rattle.gr_prop.specs.BaseChanges.{Ends}
 use Rattle.gr_prop.specs.declared.bases.Propagated.TheVariants.{Conflict}
