@@ -134,7 +134,8 @@ pub conflict-named : (arena : ArenaState) (t : TrailState) (place : Place) (clea
     (clause : List Literal) → clear ≡ no_notes n → clause ≡ (at arena place).lits → u ≡ with_clause t clear clause
     → (var : ℕ) → is_marked u.touched var ≡ true → Names (literals_at arena place) var
 conflict-named arena t place clear u n clause cleared lits is var m =
-    go (clause-named t (no_notes n) (at arena place).lits var (ap (λ (w : Noted). is_marked w.touched var) (sym begun) ∙ m))
+    go (clause-named t (no_notes n) (at arena place).lits var
+    (ap (λ (w : Noted). is_marked w.touched var) (sym begun) ∙ m))
   where
     begun : u ≡ with_clause t (no_notes n) (at arena place).lits
     begun = is ∙ ap (λ s. with_clause t s clause) cleared ∙ ap (with_clause t (no_notes n)) lits

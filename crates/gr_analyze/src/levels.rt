@@ -82,7 +82,8 @@ impl Levels {
         self.marks.has(level) && self.seen[level as usize].first < position
     }
 
-    /// Whether that is so, and another literal of the level was met: only then can one of the clause follow from others.
+    /// Whether that is so, and another literal of the level was met: only then can one of the clause
+    /// follow from others.
     pub(crate) fn has_other_before(&self, level: u32, position: usize) -> bool
         requires { level ≤ self.now.vars }
     {

@@ -43,20 +43,20 @@ spread-none assigned vars positions room = record {
     none [] = refl
     none (x ∷ xs) = none xs
 
--- one more place behind the first ones
-pub spread-below : (assigned : List Assigned) (vars old new : List ℕ) (index below from var position : ℕ)
+-- one more place, between the first ones and the last ones
+spread-more : (assigned : List Assigned) (vars old new : List ℕ)
+    (index below from under over var position : ℕ)
     → index < length vars → var ≡ get_or vars index var → IsPositionOf assigned var position
-    → new ≡ set old below position → AreSpread assigned vars old index below from
-    → AreSpread assigned vars new (index + 1) (below + 1) from
-spread-below assigned vars old new index below from var position low read at is s =
+    → AreSpread assigned vars old index below from → length new ≡ length old
+    → under ≤ over → over ≤ length old → under + length old ≡ over + (index + 1)
+    → take under new ++ drop over new ≡ take below old ++ position ∷ drop from old
+    → AreSpread assigned vars new (index + 1) under over
+spread-more assigned vars old new index below from under over var position low read at s
+    long apart within count parts =
     let room = s.room in
-    let count = s.count in
-    let within = s.within in
-    let long : length new ≡ length old = ap length is ∙ length-set old below position in
-    let gap : below < from = omega arith in
     record {
       room = omega arith;
-      apart = omega arith;
+      apart = apart;
       within = omega arith;
       count = omega arith;
       each = s.each ++ position ∷ [];
@@ -64,6 +64,20 @@ spread-below assigned vars old new index below from var position low read at is 
       permuted = subst (IsPermutation (s.each ++ position ∷ [])) (sym parts)
           (between s.each (take below old) (drop from old) position s.permuted);
     }
+
+-- one more place behind the first ones
+pub spread-below : (assigned : List Assigned) (vars old new : List ℕ)
+    (index below from var position : ℕ)
+    → index < length vars → var ≡ get_or vars index var → IsPositionOf assigned var position
+    → new ≡ set old below position → AreSpread assigned vars old index below from
+    → AreSpread assigned vars new (index + 1) (below + 1) from
+spread-below assigned vars old new index below from var position low read at is s =
+    let room = s.room in
+    let count = s.count in
+    let within = s.within in
+    spread-more assigned vars old new index below from (below + 1) from var position low read at s
+    (ap length is ∙ length-set old below position)
+    (omega arith) (omega arith) (omega arith) parts
   where
     parts : take (below + 1) new ++ drop from new ≡ take below old ++ position ∷ drop from old
     parts =
@@ -84,18 +98,9 @@ spread-from assigned vars old new index below from before var position low read 
     let room = s.room in
     let count = s.count in
     let within = s.within in
-    let long : length new ≡ length old = ap length is ∙ length-set old before position in
-    let gap : below < from = omega arith in
-    record {
-      room = omega arith;
-      apart = omega arith;
-      within = omega arith;
-      count = omega arith;
-      each = s.each ++ position ∷ [];
-      zip = all_zip_more (IsPositionOf assigned) vars s.each index var position low read s.zip at;
-      permuted = subst (IsPermutation (s.each ++ position ∷ [])) (sym parts)
-          (between s.each (take below old) (drop from old) position s.permuted);
-    }
+    spread-more assigned vars old new index below from below before var position low read at s
+    (ap length is ∙ length-set old before position)
+    (omega arith) (omega arith) (omega arith) parts
   where
     parts : take below new ++ drop before new ≡ take below old ++ position ∷ drop from old
     parts =

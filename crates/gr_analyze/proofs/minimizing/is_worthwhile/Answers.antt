@@ -1,19 +1,17 @@
 -- a false literal's variable has a value, and its level is known
-use Rattle.std.proofs.Common.{◌≡◌, sym, subst, arith, IsSome, Some}
+use Rattle.std.proofs.Common.{◌≡◌, subst, arith, Some}
 use Rattle.std.specs.Prelude.{option_map}
 use Rattle.gr_trail.specs.Trails.{Assigned, assigned_to}
-use Rattle.gr_analyze.proofs.FalseLiterals.{false-some, level-within, depth-le}
+use Rattle.gr_analyze.proofs.FalseLiterals.{asked-some, level-within, depth-le}
 use Rattle.gr_analyze.proofs.minimizing.is_worthwhile.Goals as goal
 
 pub level-level-requires : goal.level-level-requires
-level-level-requires c =
-    subst (λ v. IsSome (assigned_to c.args.trail.now.assigned v)) (sym c.var-var.ensures.number)
-    (false-some c.args.trail.now.assigned c.args.lit c.requires.trail.distinct c.requires.gone)
+level-level-requires c = asked-some c.args.trail.now c.args.lit _ c.requires.trail c.requires.gone
+    c.var-var.ensures.number
 
 pub position-requires : goal.position-requires
-position-requires c =
-    subst (λ v. IsSome (assigned_to c.args.trail.now.assigned v)) (sym c.var-var.ensures.number)
-    (false-some c.args.trail.now.assigned c.args.lit c.requires.trail.distinct c.requires.gone)
+position-requires c = asked-some c.args.trail.now c.args.lit _ c.requires.trail c.requires.gone
+    c.var-var.ensures.number
 
 pub has_other_before-requires : goal.has_other_before-requires
 has_other_before-requires c =
