@@ -23,10 +23,10 @@ use Rattle.gr_hints.specs.Gathering.{literals_at, IsForcedBy, AreForced, HaveRea
 use Rattle.gr_hints.proofs.UnitSteps.{cited-list, step-is}
 use Rattle.gr_prop.specs.Bases.{BaseClause, Clauses, base_clause, clauses_in}
 use Rattle.gr_prop.proofs.Stores.{get-clauses_in, contains-clause, some-is as stored-is}
-use Rattle.gr_strengthen.specs.Graphs.{IsReasoned, AreReasoned, IsGraph, IsFalse}
+use Rattle.gr_hints.specs.Graphs.{IsReasoned, AreReasoned, IsGraph, IsFalse}
 use Rattle.gr_strengthen.specs.Outcomes.{IsJustified}
 use Rattle.gr_strengthen.specs.Reaching.{Reach, IsCovered, IsReached, Falsifies}
-use Rattle.gr_strengthen.proofs.Graphing.{reason-others, reason-has}
+use Rattle.gr_strengthen.proofs.Graphing.{others-false, reason-has}
 
 -- ---- the reasons of the forced variables
 forced-from : (arena : ArenaState) (marked : List ℕ) (before : LiteralSet) (xs : List Assigned)
@@ -81,7 +81,7 @@ module _ (arena : ArenaState) (t : TrailState) (source : List Literal) (r : Reac
   fits k d low reason by mark q has apart =
       let a = get_or t.assigned k d in
       let stands : slice_get t.assigned k ≡ Some a = slice_get-get_or t.assigned k d low in
-      covered-false q (reason-others arena t.assigned k a reason g.reasoned stands by q has apart)
+      covered-false q (others-false arena t.assigned k a reason g.reasoned stands by q has apart)
       (followed-at k a reason stands mark by q has)
 
   pub accepted : (live : Live) (last : ℕ) → Lead arena r.forced t.assigned (reason_ids arena r.forced t.assigned)

@@ -16,7 +16,7 @@ use Rattle.gr_prop.specs.Bases.{BaseClause, BaseState, Clauses, family}
 use Rattle.gr_prop.specs.BaseChanges.{IsForcedAt, IsGrown, IsAdded, ForcesOpen, with_forced}
 use Rattle.gr_prop.proofs.Stores.{get-insert-same, get-insert-other, contains-clause}
 use Rattle.gr_prop.proofs.TrailSets.{true_in-more}
-use Rattle.gr_strengthen.specs.Graphs.{IsFalse}
+use Rattle.gr_hints.specs.Graphs.{IsFalse}
 use Rattle.gr_strengthen.specs.Holding.{HasUnitReason, IsSettled, AreSettled, IsGrounded}
 use Rattle.gr_strengthen.proofs.KeptMaps.{by-eq}
 use Rattle.gr_strengthen.proofs.UnitFacts.{one-member, only-one, unit-long}

@@ -16,45 +16,12 @@ use Rattle.gr_trail.proofs.Climbing.{some-is}
 use Rattle.gr_trail.proofs.Standing.{at-true, stands-at}
 use Rattle.gr_hints.specs.Marking.{is_marked, with_mark}
 use Rattle.gr_hints.specs.Gathering.{literals_at}
-use Rattle.gr_hints.proofs.MarkedLists.{is_marked-push, marked-at}
-use Rattle.gr_strengthen.specs.Graphs.{IsGraph}
+use Rattle.gr_hints.proofs.MarkedLists.{marked-at}
+use Rattle.gr_hints.proofs.MarkedVariables.{marked-more, marked-now, marked-cases, marked-find}
+use Rattle.gr_hints.specs.Graphs.{IsGraph}
 use Rattle.gr_strengthen.specs.Reaching.{Reach, reason_of, with_var, with_literal_of, with_clause_of, IsCovered, AllCovered, IsForced, IsDecided, IsFollowed, IsOfTrail, AreFollowed, IsMore, IsReached}
 use Rattle.gr_strengthen.specs.Reached.{nothing_reached}
-use Rattle.gr_strengthen.proofs.Graphing.{reason-has, reason-others, true-some}
-
--- ---- marks
-marked-more : (marked : List ℕ) (var v : ℕ) → is_marked marked v ≡ true → is_marked (with_mark marked var) v ≡ true
-marked-more marked var v m = go (is_marked marked var)
-  where
-    go : (b : Bool) → is_marked (if b then marked else marked ++ var ∷ []) v ≡ true
-    go true = m
-    go false = is_marked-push marked var v ∙ ap (λ b. b || nat_eq v var) m
-
-or-true : (b : Bool) → (b || true) ≡ true
-or-true true = refl
-or-true false = refl
-
-marked-now : (marked : List ℕ) (var : ℕ) → is_marked (with_mark marked var) var ≡ true
-marked-now marked var = go (is_marked marked var) refl
-  where
-    go : (b : Bool) → is_marked marked var ≡ b → is_marked (if b then marked else marked ++ var ∷ []) var ≡ true
-    go true m = m
-    go false m =
-        let e : nat_eq var var ≡ true = grind (arith, nat_tests) in
-        is_marked-push marked var var ∙ ap (λ b. is_marked marked var || b) e ∙ or-true (is_marked marked var)
-
-marked-cases : (marked : List ℕ) (var v : ℕ) → is_marked (with_mark marked var) v ≡ true
-    → (is_marked marked v ≡ true) ⊎ (v ≡ var)
-marked-cases marked var v m = go (is_marked marked var) m
-  where
-    either : (a : Bool) → is_marked marked v ≡ a → (a || nat_eq v var) ≡ true → (is_marked marked v ≡ true) ⊎ (v ≡ var)
-    either true e m = inl e
-    either false e m = inr (let r : v ≡ var = grind (arith, nat_tests) in r)
-
-    go : (b : Bool) → is_marked (if b then marked else marked ++ var ∷ []) v ≡ true
-        → (is_marked marked v ≡ true) ⊎ (v ≡ var)
-    go true m = inl m
-    go false m = either (is_marked marked v) refl (sym (is_marked-push marked var v) ∙ m)
+use Rattle.gr_strengthen.proofs.Graphing.{reason-has, others-false, true-some}
 
 -- those before stay where they are
 before-push : (xs : List ℕ) (v j d : ℕ) → j < length xs → get_or (xs ++ v ∷ []) j d ≡ get_or xs j d
@@ -234,7 +201,7 @@ reason-assigned arena t var a place g is by = each (at arena place).lits (λ q m
         go true e = subst (λ l. IsSome (assigned_to t.assigned (var_of l))) (sym (same_literal-is q a.lit e))
             (true-some t.assigned a.lit (at-true t.assigned stands.0 a stands.1.0))
         go false e = true-some t.assigned (negation q)
-            (reason-others arena t.assigned stands.0 a place g.reasoned stands.1.0 by q m e)
+            (others-false arena t.assigned stands.0 a place g.reasoned stands.1.0 by q m e)
 
     each : (ls : List Literal) → ((q : Literal) → members ls q ≡ true → literals_at arena place q ≡ true)
         → AreAssigned t.assigned ls
@@ -295,16 +262,6 @@ module _ (arena : ArenaState) (t : TrailState) (r : Reach) (index var : ℕ) (g 
                 subst (IsFollowed arena t.assigned next)
                 (sym (steps.0.grows.before j d (omega arith)))
                 (followed-more arena t.assigned r next (get_or r.forced j d) steps.0.more (f.done j d lower))
-
-marked-find : (xs : List ℕ) (v : ℕ) → is_marked xs v ≡ true
-    → (k : ℕ) × ((k < length xs) × ((d : ℕ) → get_or xs k d ≡ v))
-marked-find [] v m = absurd (cc)
-marked-find (x ∷ xs) v m =
-    elim (nat_eq v x) as (λ b. nat_eq v x ≡ b → (b || is_marked xs v) ≡ true
-    → (k : ℕ) × ((k < length (x ∷ xs)) × ((d : ℕ) → get_or (x ∷ xs) k d ≡ v))) [
-      | true ↦ λ e _. (0, (omega arith, λ d. (let r : x ≡ v = grind (arith, nat_tests) in r)))
-      | false ↦ λ _ n. let rest = marked-find xs v n in (suc rest.0, (let h = rest.1.0 in omega arith, rest.1.1))
-    ] refl m
 
 -- in the end all are followed
 pub all-reached : (arena : ArenaState) (assigned : List Assigned) (ls : List Literal) (r : Reach) (index : ℕ)

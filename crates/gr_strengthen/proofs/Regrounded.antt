@@ -19,7 +19,7 @@ use Rattle.gr_prop.specs.Bases.{BaseClause, BaseState, Clauses, family}
 use Rattle.gr_prop.specs.BaseChanges.{IsForcedAt, IsCompacted, moved_place, moved_assigned}
 use Rattle.gr_prop.proofs.Stores.{get-insert-other, get-remove-other}
 use Rattle.gr_strengthen.specs.Families.{HasTwoLiterals}
-use Rattle.gr_strengthen.specs.Graphs.{IsFalse}
+use Rattle.gr_hints.specs.Graphs.{IsFalse}
 use Rattle.gr_strengthen.specs.Holding.{HasUnitReason, IsSettled, IsGrounded}
 use Rattle.gr_strengthen.proofs.Agreement.{clause-there}
 use Rattle.gr_strengthen.proofs.KeptMaps.{by-eq, remove-there, moved-to, moved-from}

@@ -20,7 +20,7 @@ use Rattle.gr_trail.proofs.Standing.{true-at, assigned-at, not-both}
 use Rattle.gr_hints.specs.Marking.{is_marked}
 use Rattle.gr_hints.specs.Gathering.{Lead, reason_ids}
 use Rattle.gr_prop.specs.Bases.{BaseState, Clauses, clauses_in, decisions}
-use Rattle.gr_strengthen.specs.Graphs.{IsGraph, IsFalse}
+use Rattle.gr_hints.specs.Graphs.{IsGraph, IsFalse}
 use Rattle.gr_strengthen.specs.Outcomes.{with_taken, IsJustified, KeepsAll, IsShortened}
 use Rattle.gr_strengthen.specs.Reaching.{Reach, IsReached, Falsifies, chosen_from}
 use Rattle.gr_strengthen.specs.Walking.{IsSublist, Represents, IsSpentBy, AreKeptDecisions}

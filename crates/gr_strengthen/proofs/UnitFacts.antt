@@ -20,7 +20,7 @@ use Rattle.gr_hints.specs.Gathering.{literals_at, Lead, reason_ids}
 use Rattle.gr_prop.specs.Bases.{BaseState, clauses_in, family, decisions, IsUnitClosure}
 use Rattle.gr_prop.specs.BaseChanges.{IsForcedAt}
 use Rattle.gr_prop.proofs.Stores.{family-there}
-use Rattle.gr_strengthen.specs.Graphs.{IsGraph, IsFalse}
+use Rattle.gr_hints.specs.Graphs.{IsGraph, IsFalse}
 use Rattle.gr_strengthen.specs.Holding.{HasUnitReason, IsSettled, AreSettled}
 use Rattle.gr_strengthen.specs.Outcomes.{HasUnit, IsJustified, IsMissingUnit}
 use Rattle.gr_strengthen.specs.Reaching.{Reach, IsReached, Falsifies}
@@ -29,7 +29,8 @@ use Rattle.gr_strengthen.specs.Walking.{Represents, HasBothSigns}
 use Rattle.gr_strengthen.specs.declared.units.Derived.{Derived}
 use Rattle.gr_strengthen.proofs.Accepting.{justified, cites-at}
 use Rattle.gr_strengthen.proofs.Agreement.{same-closure, two-signs}
-use Rattle.gr_strengthen.proofs.Graphing.{reasoned-at, reason-others}
+use Rattle.gr_hints.proofs.Graphs.{reasoned-at}
+use Rattle.gr_strengthen.proofs.Graphing.{others-false}
 use Rattle.gr_strengthen.proofs.Reached.{reason-assigned}
 use Rattle.gr_strengthen.proofs.WalkTrails.{no-decisions, decision-there}
 
@@ -198,7 +199,8 @@ module _ (b : BaseState) (arena : ArenaState) (t : TrailState) (index : ℕ) (l 
       where
         go : (b : Bool) → same_literal q s.is.lit ≡ b → (q ≡ l) ⊎ IsFalse t.assigned q
         go true e = inl (same_literal-is q s.is.lit e ∙ s.makes)
-        go false e = inr (reason-others arena t.assigned index s.is place g.reasoned s.there by q m e)
+        go false e =
+            inr (others-false arena t.assigned index s.is place g.reasoned s.there by q m e)
 
     pub source-assigned : All (λ (q : Literal). IsSome (assigned_to t.assigned (var_of q))) (at arena place).lits
     source-assigned = reason-assigned arena t (var_of l) s.is place g s.to by

@@ -18,7 +18,7 @@ use Rattle.gr_prop.specs.Bases.{BaseState, Clauses, family, decisions, IsUnitClo
 use Rattle.gr_prop.specs.BaseChanges.{IsForcedAt, IsGrown, back_to, Ends}
 use Rattle.gr_prop.specs.declared.bases.Propagated.TheVariants.{Quiet, Conflict}
 use Rattle.gr_prop.proofs.TrailSets.{open-true, open-false}
-use Rattle.gr_strengthen.specs.Graphs.{IsFalse}
+use Rattle.gr_hints.specs.Graphs.{IsFalse}
 use Rattle.gr_strengthen.specs.Walking.{IsSublist, Represents, HasWalked, HasPassed, HasStopped, IsWalking}
 use Rattle.gr_strengthen.proofs.Sublists.{sublist-skip, sublist-normal, sublist-known, normal-one-sign}
 use Rattle.gr_strengthen.proofs.Agreement.{same-closure, conflict-too}

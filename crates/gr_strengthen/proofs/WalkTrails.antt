@@ -20,7 +20,7 @@ use Rattle.gr_prop.specs.Bases.{BaseState, family, decisions, IsBase, IsUnitClos
 use Rattle.gr_prop.specs.BaseChanges.{IsForcedAt, IsGrown, with_decision}
 use Rattle.gr_prop.proofs.TrailSets.{true_in-append, true_in-more, up_to-append}
 use Rattle.gr_prop.proofs.Founded.{founded-at, Before}
-use Rattle.gr_strengthen.specs.Graphs.{IsFalse}
+use Rattle.gr_hints.specs.Graphs.{IsFalse}
 use Rattle.gr_strengthen.specs.Walking.{AreKeptDecisions, IsSpentAt}
 
 -- what is forced is no decision

@@ -12,7 +12,7 @@ use Rattle.gr_trail.specs.Trails.{Assigned, TrailState}
 use Rattle.gr_prop.specs.Bases.{BaseClause, Clauses, HasId, family}
 use Rattle.gr_prop.specs.BaseChanges.{IsForcedAt}
 use Rattle.gr_strengthen.specs.Families.{given_clause}
-use Rattle.gr_strengthen.specs.Graphs.{IsFalse}
+use Rattle.gr_hints.specs.Graphs.{IsFalse}
 
 -- the literal's reason is its unit clause
 abbrev pub HasUnitReason : Clauses → Assigned → Type 0

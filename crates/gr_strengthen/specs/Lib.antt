@@ -1,7 +1,6 @@
 pub mod Families
 pub mod Outcomes
 pub mod Strengtheners
-pub mod Graphs
 pub mod Reaching
 pub mod Reached
 pub mod Walking

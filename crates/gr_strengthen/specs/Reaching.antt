@@ -9,7 +9,7 @@ use Rattle.gr_arena.specs.Arenas.{ArenaState, at}
 use Rattle.gr_trail.specs.Trails.{Assigned, true_in, assigned_to}
 use Rattle.gr_hints.specs.Marking.{is_marked, with_mark}
 use Rattle.gr_hints.specs.Gathering.{literals_at}
-use Rattle.gr_strengthen.specs.Graphs.{IsFalse}
+use Rattle.gr_hints.specs.Graphs.{IsFalse}
 
 -- the variables whose literals were forced, and those that were decided, as far as they were reached
 pub record Reach : Type 0 where

@@ -9,7 +9,7 @@ use Rattle.gr_logic.specs.Greedy.{WalkKeeps, GreedyKeeps}
 use Rattle.gr_logic.specs.declared.places.Place.{Place}
 use Rattle.gr_trail.specs.Trails.{Assigned, true_in, value_in, up_to}
 use Rattle.gr_prop.specs.Bases.{BaseClause, BaseState, Clauses, family, decisions, IsUnitClosure}
-use Rattle.gr_strengthen.specs.Graphs.{IsFalse}
+use Rattle.gr_hints.specs.Graphs.{IsFalse}
 
 -- the one list is the other one without some of its members
 abbrev pub IsSublist : List Literal → List Literal → Type 0

@@ -3,7 +3,7 @@ ghost use Rattle.std.specs.Prelude.{◌≡◌, ◌≤◌, ◌<◌, ◌+◌, ◌+
 ghost use Rattle.gr_logic.specs.Literals.{var_of};
 ghost use Rattle.gr_trail.specs.Trails.{assigned_to, true_in};
 ghost use Rattle.gr_hints.specs.Gathering.{Lead, reason_ids};
-ghost use Rattle.gr_strengthen.specs.Graphs.{IsGraph};
+ghost use Rattle.gr_hints.specs.Graphs.{IsGraph};
 ghost use Rattle.gr_strengthen.specs.Reaching.{AreFollowed, IsMore, IsReached, with_clause_of, with_literal_of};
 ghost use Rattle.gr_strengthen.specs.Reached.{AreSized, nothing_reached, reach_in};
 

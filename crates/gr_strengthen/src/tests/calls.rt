@@ -32,14 +32,7 @@ pub(super) fn clauses_of(alloc: Global, texts: &[&str]) -> Result<Vec<Clause>, F
 fn are_known(lits: &[Lit]) -> bool
     ensures { result ≡ true → All (λ l. l.index < 6) lits.now }
 {
-    let mut index = 0;
-    while index < lits.len() {
-        if lits[index].index() >= 6 {
-            return false;
-        }
-        index += 1;
-    }
-    true
+    lits.iter().all(|lit| lit.index() < 6)
 }
 
 /// The formula of a text.

@@ -1,9 +1,12 @@
 // Small formulas against worked rows.
 ghost use Rattle.std.specs.Prelude.{◌≡◌, ◌<◌, None, length};
 ghost use Rattle.std.specs.FinMap as finite;
+ghost use Rattle.gr_logic.specs.Formulas.{VarsUpTo};
+ghost use Rattle.gr_logic.specs.NormalForms.{IsNormal};
 
 use crate::Strengthener;
 use crate::tests::calls::{clauses_of, taken_of};
+use gr_bench::Taken;
 use gr_logic::{Lit, Strengthened};
 use std::alloc::Global;
 use std::test::Fail;
@@ -97,16 +100,15 @@ pub(super) const ROWS: [Row; 9] = [
 fn is_strengthened(
     alloc: Global,
     strengthener: &mut Strengthener<'_>,
-    next: u64,
+    taken: &Taken,
     row: &Row,
 ) -> Result<bool, Fail>
-    requires vars { strengthener.old.formula.vars ≡ 6 }
-    requires above { length strengthener.old.formula.clauses < next }
-    requires unused { finite.get strengthener.old.kept next ≡ None }
+    requires above { length strengthener.old.formula.clauses < taken.now.id }
+    requires unused { finite.get strengthener.old.kept taken.now.id ≡ None }
+    requires normal { IsNormal taken.now.clause }
+    requires known { VarsUpTo strengthener.old.formula.vars taken.now.clause }
 {
-    let clause = clauses_of(alloc, &[row.taken])?.pop().ok_or("no clause")?;
-    let taken = taken_of(alloc, next, &clause)?;
-    match (strengthener.run(&taken)?, row.shorter) {
+    match (strengthener.run(taken)?, row.shorter) {
         (Strengthened::Same, None) => Ok(true),
         (Strengthened::Shorter { clause, hints }, Some((wanted, ids))) => {
             let wanted = clauses_of(alloc, &[wanted])?.pop().ok_or("no clause")?;
@@ -145,8 +147,10 @@ pub(super) fn is_met(
     requires above { length strengthener.old.formula.clauses < next }
     requires unused { finite.get strengthener.old.kept next ≡ None }
 {
+    let clause = clauses_of(alloc, &[row.taken])?.pop().ok_or("no clause")?;
+    let taken = taken_of(alloc, next, &clause)?;
     Ok(
-        is_strengthened(alloc, strengthener, next, row)?
+        is_strengthened(alloc, strengthener, &taken, row)?
             && has_unit(strengthener, row)?
             && lets_go(strengthener, row)?,
     )
