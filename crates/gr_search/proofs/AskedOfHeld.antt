@@ -113,7 +113,8 @@ new-to-formula f k c holds normal new =
     each : (d : List Literal) → IsTautology d ⊎ IsUnderOwnId (length f.clauses) k d → ¬ IsSubclause d c
     each d (inl t) part = never-both c t.0 normal (part t.0 t.1) (part _ t.2)
     each d (inr u) part =
-        new u.place (members d) (ap (option_map (λ (x : BaseClause). set.contains x.literals)) u.there ∙ ap Some u.is) part
+        let is = ap (option_map (λ (x : BaseClause). set.contains x.literals)) u.there ∙ ap Some u.is in
+        new u.place (members d) is part
 
 -- nor is one that is held
 pub new-to-held : (last : ℕ) (k : Clauses) (c : List Literal) → IsNewTo k c → (id : ℕ) (known : FiniteSet)

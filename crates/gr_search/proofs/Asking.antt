@@ -22,7 +22,8 @@ use Rattle.gr_search.specs.declared.solving.Request.TheVariants.{Learning}
 use Rattle.gr_search.specs.declared.solving.Solver.{Solver}
 use Rattle.gr_search.specs.Deciding.{HasAllValues}
 use Rattle.gr_search.specs.Keeping.{IsProved, IsNewTo, IsModelOf, MakesTrue}
-use Rattle.gr_search.specs.Solvers.{IsGrounded, IsForgettable, MayForget, IsReadyToLearn, IsAsking}
+use Rattle.gr_search.specs.Solvers.{IsGrounded, IsForgettable, MayForget, IsReadyToLearn}
+use Rattle.gr_search.specs.SolverTurns.{IsAsking}
 use Rattle.gr_search.proofs.Learnt.{lbd-short, taught-within, taught-addable, taught-new, taught-proved}
 
 pub may-forget : (s : Solver) (ids : List ℕ) (r : Request) → IsGrounded s
@@ -85,7 +86,8 @@ is-model-of b vars values base quiet known all sized makes = record {
       let m = model b place c base quiet at (subst (λ n. VarsUpTo n c) (sym known) within)
       (subst (λ n. HasAllValues n b.trail.assigned) (sym known) all) in
       let on = true-at b.trail.assigned m.0 m.2 in
-      let here : get_or b.trail.assigned on.0 on.1 ≡ on.1 = get_or_from_slice_get b.trail.assigned on.0 on.1 on.1 on.2 in
+      let here : get_or b.trail.assigned on.0 on.1 ≡ on.1 =
+      get_or_from_slice_get b.trail.assigned on.0 on.1 on.1 on.2 in
       some-true values c m.0 m.1
       (subst (λ (q : Literal). literal_true values q ≡ true) (ap (λ (a : Assigned). a.lit) here ∙ on.3)
       (makes on.0 on.1 (slice_get_within b.trail.assigned on.0 on.1 on.2)));

@@ -20,7 +20,10 @@ use Rattle.gr_search.specs.Tellings.{tally_with, tally_then}
 use Rattle.gr_search.specs.Turns.{IsLearning, IsRefuted, IsSpent, EndsRightly}
 use Rattle.gr_search.specs.HeldClauses.{HoldsFormula}
 use Rattle.gr_search.specs.Keeping.{IsModelOf}
-use Rattle.gr_search.specs.Solvers.{asked_in, view_of, ended_by_clause, ended_by_id, ended_by, IsAsking, HasGoneOn, HasEnded}
+use Rattle.gr_search.specs.Solvers.{asked_in}
+use Rattle.gr_search.specs.TakingOver.{ended_by_clause, ended_by_id, ended_by}
+use Rattle.gr_search.specs.SolverTurns.{IsAsking, HasGoneOn, HasEnded}
+use Rattle.gr_search.specs.SolverViews.{view_of}
 use Rattle.gr_search.proofs.Holding.{same-some}
 use Rattle.gr_search.proofs.AskedOfHeld.{models-formula}
 

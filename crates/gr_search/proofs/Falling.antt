@@ -14,7 +14,10 @@ use Rattle.gr_search.specs.declared.solving.Request.TheVariants as request
 use Rattle.gr_search.specs.declared.solving.Solver.{Solver}
 use Rattle.gr_search.specs.Searches as search
 use Rattle.gr_search.specs.Tellings.{tally_with, tally_then, is_imported}
-use Rattle.gr_search.specs.Solvers.{asked_in, IsReadyFor, IsUnsettled, IsWaiting, MayLearnMore, AsksForClause, AsksToForget, MayBeTold, rank_of, units_left, learns_left, left_in, settled_with, settled_then, IsAsking, HasGoneOn}
+use Rattle.gr_search.specs.Solvers.{asked_in, IsReadyFor, IsUnsettled, IsWaiting, MayLearnMore, AsksForClause, AsksToForget, MayBeTold}
+use Rattle.gr_search.specs.TakingOver.{settled_with, settled_then}
+use Rattle.gr_search.specs.SolverTurns.{IsAsking, HasGoneOn}
+use Rattle.gr_search.specs.SolverViews.{rank_of, units_left, learns_left, left_in}
 
 -- the number, by the open request
 pub left-by : (s : Solver) (r : Request) → s.request ≡ r
@@ -111,8 +114,8 @@ module _ (old new : Solver) (told : Told) (a : Ask) (gone : HasGoneOn old told a
       omega (arith, e, m, l, v, n, more)
 
   by-id : (r : Request) → old.request ≡ r → AsksForClause r
-      → new.counts.tally ≡ tally_with old.counts.tally (asked_in r old.learnt) → settled_with old.settled r ≤ new.settled
-      → left_in new < left_in old
+      → new.counts.tally ≡ tally_with old.counts.tally (asked_in r old.learnt)
+      → settled_with old.settled r ≤ new.settled → left_in new < left_in old
   by-id request.Nothing is asks same more = absurd asks
   by-id (request.Learning lbd) is asks same more =
       let e = left-by old (request.Learning lbd) is in

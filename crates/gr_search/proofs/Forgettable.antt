@@ -18,7 +18,8 @@ use Rattle.gr_prop.proofs.Stores.{get-remove-same, get-remove-other}
 use Rattle.gr_import.specs.Imports.{IsNoReason}
 use Rattle.gr_import.specs.Forgetting.{Ranked, IsCandidate, AreWeakest}
 use Rattle.gr_search.specs.Keeping.{IsSettled, IsKept}
-use Rattle.gr_search.specs.Solvers.{IsForgettable, AreLeft, AreWithout}
+use Rattle.gr_search.specs.Solvers.{IsForgettable}
+use Rattle.gr_search.specs.TakingOver.{AreLeft, AreWithout}
 
 -- ---- ids that go one by one
 pub left-none : (k : Clauses) → AreLeft k k []
@@ -128,7 +129,9 @@ weakest-forgettable k first ids are =
     (map (λ (r : Ranked). r.id) (take (length are.ranked / 2) are.ranked)) ids are.half
     (All-map (IsForgettable k first) (λ (r : Ranked). r.id) (take (length are.ranked / 2) are.ranked)
     (All-take (λ (r : Ranked). IsForgettable k first r.id) (length are.ranked / 2) are.ranked
-    (λ i d low. one (get_or are.ranked i d) ((are.each (get_or are.ranked i d)).0 (Contains-get_or are.ranked i d low)))))
+    (λ i d low.
+    let r = get_or are.ranked i d in
+    one r ((are.each r).0 (Contains-get_or are.ranked i d low)))))
   where
     one : (r : Ranked) → IsCandidate k first r → IsForgettable k first r.id
     one r is = record {

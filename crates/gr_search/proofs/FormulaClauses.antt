@@ -22,20 +22,16 @@ use Rattle.gr_diary.proofs.LogPieces.{get-insert_at}
 use Rattle.gr_diary.proofs.Moved.{get-new}
 use Rattle.gr_trail.specs.Trails.{TrailState}
 use Rattle.gr_prop.specs.Bases.{BaseState, BaseClause, Clauses, LacksId, family, empty_base}
-use Rattle.gr_prop.specs.BaseChanges.{IsAdded, IsAddable}
+use Rattle.gr_prop.specs.BaseChanges.{IsAdded, IsAddable, with_forced}
 use Rattle.gr_prop.proofs.Stores.{by_place, get-insert-same, get-insert-other, contains-clause}
 use Rattle.gr_search.specs.HeldClauses.{Knows}
 
--- the first occurrences have no other variables
-pub first-within : (vars : ℕ) (c : List Literal) → VarsUpTo vars c → VarsUpTo vars (first_occurrences c)
-first-within vars [] all = all
-first-within vars (l ∷ ls) all =
-    All-cons Within l _ (All-head Within l ls all)
-    (All-filter (λ q. not (same_literal q l)) Within (first_occurrences ls)
-    (first-within vars ls (All-tail Within l ls all)))
-  where
-    Within : Literal → Type 0
-    Within q = q.index < vars
+-- what is true of all literals is true of the first occurrences
+all-firsts : (P : Literal → Type 0) (c : List Literal) → All P c → All P (first_occurrences c)
+all-firsts P [] all = all
+all-firsts P (l ∷ ls) all =
+    All-cons P l _ (All-head P l ls all)
+    (All-filter (λ q. not (same_literal q l)) P (first_occurrences ls) (all-firsts P ls (All-tail P l ls all)))
 
 -- ---- the formula's clauses under their ids
 -- what is there below the ids stays
@@ -81,7 +77,7 @@ pub firsts-known : (f : Cnf) (vars i : ℕ) (c firsts : List Literal) → slice_
 firsts-known f vars i c firsts at all is normal =
     subst (VarsUpTo vars) (sym normal)
     (subst (λ (n : ℕ). VarsUpTo n (first_occurrences c)) (sym is)
-    (first-within f.vars c (clause-within f i c at all)))
+    (all-firsts (λ l. l.index < f.vars) c (clause-within f i c at all)))
 
 pub firsts-normal : (c firsts : List Literal) → ¬ IsTautology c → firsts ≡ first_occurrences c → IsNormal firsts
 firsts-normal c firsts sound normal = subst IsNormal (sym normal) (normal-forms c sound).0
@@ -134,7 +130,7 @@ next-unused f b n id is old p c there same = let low = old.ids p c there in omeg
 module _ (f : Cnf) (b d : BaseState) (n id : ℕ) (c firsts : List Literal) (place : Place)
     (at : slice_get f.clauses n ≡ Some c) (is : id ≡ n + 1) (sound : ¬ IsTautology c)
     (normal : firsts ≡ first_occurrences c) (added : IsAdded b d id 1 firsts place) (old : HoldsFirst f b n) where
-  same-trail : (v : TrailState → ℕ) → ((l : Literal) (p : Place) → v (Rattle.gr_prop.specs.BaseChanges.with_forced b.trail l p) ≡ v b.trail)
+  same-trail : (v : TrailState → ℕ) → ((l : Literal) (p : Place) → v (with_forced b.trail l p) ≡ v b.trail)
       → v d.trail ≡ v b.trail
   same-trail v forced = elim added.trail as (λ _. v d.trail ≡ v b.trail) [
     | inl more ↦ ap v more.1.1 ∙ forced more.0 place

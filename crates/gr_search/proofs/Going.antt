@@ -7,7 +7,9 @@ use Rattle.gr_search.specs.declared.asks.Ask.{Ask}
 use Rattle.gr_search.specs.declared.asks.Told.{Told}
 use Rattle.gr_search.specs.declared.solving.Solver.{Solver}
 use Rattle.gr_search.specs.Keeping.{IsKept}
-use Rattle.gr_search.specs.Solvers.{IsSteady, Stays, HasSearched, HasPrepared, HasTakenOver, HasGoneOn, ClausesThen}
+use Rattle.gr_search.specs.Solvers.{IsSteady}
+use Rattle.gr_search.specs.TakingOver.{Stays, HasTakenOver, ClausesThen}
+use Rattle.gr_search.specs.SolverTurns.{HasSearched, HasPrepared, HasGoneOn}
 use Rattle.gr_search.proofs.Steady.{kept-grown}
 
 -- propagation leaves a search steady

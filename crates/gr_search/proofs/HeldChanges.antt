@@ -14,7 +14,7 @@ use Rattle.gr_import.specs.Imports.{IsWithout}
 use Rattle.gr_search.specs.HeldClauses.{held_in}
 use Rattle.gr_search.specs.Searches.{HeldClauses}
 use Rattle.gr_search.specs.Tellings.{without_ids}
-use Rattle.gr_search.specs.Solvers.{IsWith, AreWithout}
+use Rattle.gr_search.specs.TakingOver.{IsWith, AreWithout}
 use Rattle.gr_search.proofs.Holding.{HasOwnPlaces, IsHeld, same-some, held-of, of-held, held-is}
 
 pub some-none : {X : Type 0} (o : Option X) (x : X) → o ≡ None → o ≡ Some x → ⊥
@@ -182,7 +182,8 @@ get-without h (id ∷ ids) q =
     both false false = refl
 
 -- clauses that were let go are held no longer
-module _ (k n : Clauses) (ids : List ℕ) (own : HasOwnPlaces k) (other : HasOwnPlaces n) (gone : AreWithout k n ids) where
+module _ (k n : Clauses) (ids : List ℕ) (own : HasOwnPlaces k) (other : HasOwnPlaces n)
+    (gone : AreWithout k n ids) where
   pub held-without-ids : (last : ℕ) → held_in last n ≡ without_ids (held_in last k) ids
   held-without-ids last = held-is last n (without_ids (held_in last k) ids) other each only
     where

@@ -170,7 +170,8 @@ among-entries last (e ∷ es) id s ordered found =
 
     by-id : (finite.find nat_cmp id (held_entries last es) ≡ Some s → IsHeldAmong last es id s) → (b : Bool)
         → eq_by_cmp nat_cmp id e.1.id ≡ b → nat_lt last e.1.id ≡ true
-        → cond (eq_by_cmp nat_cmp id e.1.id) (Some e.1.literals) (finite.find nat_cmp id (held_entries last es)) ≡ Some s
+        → cond (eq_by_cmp nat_cmp id e.1.id) (Some e.1.literals) (finite.find nat_cmp id (held_entries last es))
+        ≡ Some s
         → IsHeldAmong last (e ∷ es) id s
     by-id go true tied low f =
         let same : id ≡ e.1.id = tied-same id e.1.id tied in

@@ -13,7 +13,7 @@ use Rattle.gr_diary.specs.States.{has}
 use Rattle.gr_prop.specs.Bases.{BaseClause, Clauses, family}
 use Rattle.gr_import.specs.Imports.{IsWithout}
 use Rattle.gr_search.specs.HeldClauses.{Knows, HasOwnIds, IsUnderOwnId, HoldsFormula}
-use Rattle.gr_search.specs.Solvers.{IsWith, AreWithout}
+use Rattle.gr_search.specs.TakingOver.{IsWith, AreWithout}
 use Rattle.gr_search.proofs.Holding.{HasOwnPlaces}
 use Rattle.gr_search.proofs.HeldChanges.{by-number, with-kept, with-old, with-new, left-old, left-kept}
 

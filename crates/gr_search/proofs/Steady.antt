@@ -36,7 +36,8 @@ open-front xs ys l none =
 
 -- the reason of the literal is the same clause among the others
 abbrev pub KeepsReason : Clauses → Clauses → Assigned → Type 0
-KeepsReason k n a = (p : Place) (c : BaseClause) → a.reason ≡ Some p → finite.get k p.0 ≡ Some c → finite.get n p.0 ≡ Some c
+KeepsReason k n a =
+    (p : Place) (c : BaseClause) → a.reason ≡ Some p → finite.get k p.0 ≡ Some c → finite.get n p.0 ≡ Some c
 
 pub settled-in : (k n : Clauses) (a : Assigned) → KeepsReason k n a → IsSettled k a → IsSettled n a
 settled-in k n a keeps s = record {
@@ -56,7 +57,8 @@ keeps-insert k p c a fresh q d reason there =
     get-insert-other k p.0 c q.0 (λ same. (let e = ap (finite.get k) same in cc)) ∙ there
 
 -- ---- another trail, and other clauses
-module _ (vars : ℕ) (k : Clauses) (t : TrailState) (s : ℕ) (present : List Bool) (kept : IsKept vars k t s present) where
+module _ (vars : ℕ) (k : Clauses) (t : TrailState) (s : ℕ) (present : List Bool)
+    (kept : IsKept vars k t s present) where
   -- the first literals are the same
   pub kept-trail : (u : TrailState) (present' : List Bool) → u.vars ≡ t.vars → length present' ≡ length present
       → HoldsOpen present' u.assigned → s ≤ length u.assigned → take s u.assigned ≡ take s t.assigned
@@ -114,7 +116,8 @@ low-front b zero xs within low = (omega arith, refl)
 low-front b (suc s) [] within low = absurd (omega (arith, within))
 low-front b (suc s) (x ∷ xs) within low =
     let rest = low-front b s xs (omega (arith, within)) (All-tail (λ (a : Assigned). a.level ≤ b) x (take s xs) low) in
-    let here : nat_le x.level b ≡ true = le-leb x.level b (All-head (λ (a : Assigned). a.level ≤ b) x (take s xs) low) in
+    let first : x.level ≤ b = All-head (λ (a : Assigned). a.level ≤ b) x (take s xs) low in
+    let here : nat_le x.level b ≡ true = le-leb x.level b first in
     subst (λ (t : Bool). (suc s ≤ length (if t then x ∷ up_to b xs else up_to b xs))
     × (take (suc s) (if t then x ∷ up_to b xs else up_to b xs) ≡ x ∷ take s xs)) (sym here)
     (omega (arith, rest.0), ap (λ ys. x ∷ ys) rest.1)
@@ -130,8 +133,9 @@ kept-back vars k t s present present' level kept long undecided =
     kept-trail vars k t s present kept (back_to t level) present' refl long undecided front.0 front.1
 
 -- a clause comes in, and forces a literal or none
-pub kept-added : (vars : ℕ) (b d : BaseState) (id lbd : ℕ) (c : List Literal) (place : Place) (s : ℕ) (present : List Bool)
-    → IsAdded b d id lbd c place → IsKept vars b.clauses b.trail s present → IsKept vars d.clauses d.trail s present
+pub kept-added : (vars : ℕ) (b d : BaseState) (id lbd : ℕ) (c : List Literal) (place : Place) (s : ℕ)
+    (present : List Bool) → IsAdded b d id lbd c place → IsKept vars b.clauses b.trail s present
+    → IsKept vars d.clauses d.trail s present
 kept-added vars b d id lbd c place s present added kept =
     let new : BaseClause = record { id = id; lbd = lbd; literals = set.from_list c } in
     let same : IsKept vars d.clauses b.trail s present =
@@ -163,8 +167,8 @@ keeps-leaves b (Some id) len left lbd may (inl gone) i x low p c reason there =
     ∙ get-remove-other b.clauses gone.0.0 p.0
     (λ same. free i x low (reason ∙ ap (λ (n : ℕ). Some (record { 0 = n })) same)) ∙ there
 
-pub kept-imported : (vars : ℕ) (b d : BaseState) (old : Option ℕ) (id : ℕ) (c : List Literal) (s : ℕ) (present : List Bool)
-    → MayGo b old → IsImported b d old id c → IsKept vars b.clauses b.trail s present
+pub kept-imported : (vars : ℕ) (b d : BaseState) (old : Option ℕ) (id : ℕ) (c : List Literal) (s : ℕ)
+    (present : List Bool) → MayGo b old → IsImported b d old id c → IsKept vars b.clauses b.trail s present
     → IsKept vars d.clauses d.trail s present
 kept-imported vars b d old id c s present may come kept =
     kept-added vars (record b { clauses = come.left }) d id come.lbd c come.place s present come.added
@@ -294,12 +298,13 @@ pub kept-compacted : (vars : ℕ) (b d : BaseState) (s : ℕ) (present : List Bo
     → IsKept vars b.clauses b.trail s present → IsKept vars d.clauses d.trail s present
 kept-compacted vars b d s present moved kept =
     kept-mapped vars b.clauses d.clauses b.trail d.trail s s present (moved_assigned moved.moves)
-    (moved-lit moved.moves) (ap (λ (t : TrailState). t.vars) moved.trail) (ap (λ (t : TrailState). t.assigned) moved.trail)
-    kept.there
+    (moved-lit moved.moves) (ap (λ (t : TrailState). t.vars) moved.trail)
+    (ap (λ (t : TrailState). t.assigned) moved.trail) kept.there
     (λ i x low. settled-moved b d moved (get_or (take s b.trail.assigned) i x) (kept.each i x low)) kept
 
 -- where nothing is decided each literal is of level zero
-levels-zero : (level : ℕ) (xs : List Assigned) (depth : ℕ) → depth ≡ 0 → Climbs level xs depth → All (λ x. x.level ≡ 0) xs
+levels-zero : (level : ℕ) (xs : List Assigned) (depth : ℕ) → depth ≡ 0 → Climbs level xs depth
+    → All (λ x. x.level ≡ 0) xs
 levels-zero level [] depth z c = All-nil (λ (x : Assigned). x.level ≡ 0)
 levels-zero level (x ∷ xs) depth z c =
     let high = (climbs-le x.level xs depth c.1).0 in

@@ -15,7 +15,8 @@ use Rattle.gr_search.specs.declared.solving.Solver.{Solver}
 use Rattle.gr_search.specs.HeldClauses.{held_in, HoldsFormula}
 use Rattle.gr_search.specs.Searches.{HeldClauses}
 use Rattle.gr_search.specs.Tellings.{held_with, held_without, held_then, without_id}
-use Rattle.gr_search.specs.Solvers.{asked_in, IsReadyFor, IsForgettable, MayBeTold, IsWith, ClausesWithId, ClausesLeft, ClausesThen}
+use Rattle.gr_search.specs.Solvers.{asked_in, IsReadyFor, IsForgettable, MayBeTold}
+use Rattle.gr_search.specs.TakingOver.{IsWith, ClausesWithId, ClausesLeft, ClausesThen}
 use Rattle.gr_search.proofs.Holding.{HasOwnPlaces}
 use Rattle.gr_search.proofs.HeldChanges.{held-with-clause, held-lacking, left-old, left-own, held-left, held-without-ids}
 use Rattle.gr_search.proofs.KnownClauses.{holds-with, holds-left, holds-without}

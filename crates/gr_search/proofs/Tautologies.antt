@@ -13,7 +13,8 @@ never-both [] l normal one other = let e : false ≡ true = one in cc
 never-both (x ∷ xs) l normal one other = by (same_literal l x) (same_literal (negation l) x) refl refl one other
     (never-both xs l normal.1)
   where
-    by : (a b : Bool) → same_literal l x ≡ a → same_literal (negation l) x ≡ b → (same_literal l x || members xs l) ≡ true
+    by : (a b : Bool) → same_literal l x ≡ a → same_literal (negation l) x ≡ b
+        → (same_literal l x || members xs l) ≡ true
         → (same_literal (negation l) x || members xs (negation l)) ≡ true
         → (members xs l ≡ true → members xs (negation l) ≡ true → ⊥) → ⊥
     by true true is isnt m n rest =

@@ -23,7 +23,8 @@ use Rattle.gr_search.specs.Searches as search
 use Rattle.gr_search.specs.HeldClauses.{held_in}
 use Rattle.gr_search.specs.Keeping.{IsSettled}
 use Rattle.gr_search.specs.Tellings.{adds_clause, lets_go, is_open, Answers, IsNewId, MayBeReplaced, HasTwoLiterals}
-use Rattle.gr_search.specs.Solvers.{asked_in, view_of, IsGrounded, IsReadyFor, IsSearching, AsksForClause, AsksToForget, MayBeTold}
+use Rattle.gr_search.specs.Solvers.{asked_in, IsGrounded, IsReadyFor, AsksForClause, AsksToForget, MayBeTold}
+use Rattle.gr_search.specs.SolverViews.{view_of, IsSearching}
 use Rattle.gr_search.proofs.Holding.{HasOwnPlaces, same-some, held-of}
 use Rattle.gr_search.proofs.TakingOver.{IsAbove}
 
@@ -122,7 +123,8 @@ module _ (f : Cnf) (s : Solver) (own : HasOwnPlaces s.base.clauses) where
       All-weaker (IsSettled s.base.clauses) (λ a. a.reason ≢ Some p)
       (λ a settled. no-reason id (may id refl) a settled p at) s.base.trail.assigned
       (subst (All (IsSettled s.base.clauses))
-      (ap (λ n. take n s.base.trail.assigned) grounded.all ∙ take_all (length s.base.trail.assigned) s.base.trail.assigned (omega arith))
+      (ap (λ n. take n s.base.trail.assigned) grounded.all
+      ∙ take_all (length s.base.trail.assigned) s.base.trail.assigned (omega arith))
       searching.waiting.steady.kept.each)
 
   pub may-be-told : IsSearching f s → (told : Told) → Answers (view_of f s) told → MayBeTold s told

@@ -49,6 +49,10 @@ is-known t i l trail at =
     let same : get_or t.assigned i at.is ≡ at.is = get_or_from_slice_get t.assigned i at.is at.is at.there in
     subst (λ q. q.index < t.vars) at.literal (subst (λ (a : Assigned). a.lit.index < t.vars) same known)
 
+pub known-at : (t : TrailState) (ls : List Literal) (i : ℕ) (l : Literal) → IsTrail t → ls ≡ lits_of t.assigned
+    → i < length ls → l ≡ get_or ls i l → l.index < t.vars
+known-at t ls i l trail same low is = is-known t i l trail (stands t.assigned ls i l same low is)
+
 -- where it was assigned at a level or below, so was what stands before it
 pub low-before : (t : TrailState) (i : ℕ) (l : Literal) (var level b : ℕ) → IsTrail t → StandsAt t.assigned i l
     → var ≡ var_of l → option_map (λ a. a.level) (assigned_to t.assigned var) ≡ Some level → level ≤ b
@@ -77,13 +81,14 @@ value-assigned (x ∷ xs) l some =
           let e : nat_eq (var_of x.lit) (var_of l) ≡ true = eq-eqb (var_of x.lit) (var_of l) (omega (arith, same)) in
           subst (λ (b : Bool). IsSome (cond b (Some x) (assigned_to xs (var_of l)))) (sym e) refl
       | inr apart ↦
-          let e : nat_eq (var_of x.lit) (var_of l) ≡ false = ne_eqb (var_of x.lit) (var_of l) (λ s. apart (omega (arith, s))) in
+          let e : nat_eq (var_of x.lit) (var_of l) ≡ false =
+          ne_eqb (var_of x.lit) (var_of l) (λ s. apart (omega (arith, s))) in
           let one : same_literal l x.lit ≡ false =
           ap (λ b. b && same_sign l.positive x.lit.positive) (ne_eqb l.index x.lit.index (λ s. apart (sym s))) in
           let other : same_literal (negation l) x.lit ≡ false =
           ap (λ b. b && same_sign (not l.positive) x.lit.positive) (ne_eqb l.index x.lit.index (λ s. apart (sym s))) in
           let rest : is_some (value_in xs l) ≡ true =
-          sym ((λ i. is_some (if one i || true_in xs l then Some true else (if other i || true_in xs (negation l) then Some
-          false else None)))) ∙ some in
+          sym ((λ i. is_some (if one i || true_in xs l then Some true
+          else (if other i || true_in xs (negation l) then Some false else None)))) ∙ some in
           subst (λ (b : Bool). IsSome (cond b (Some x) (assigned_to xs (var_of l)))) (sym e) (value-assigned xs l rest)
     ]

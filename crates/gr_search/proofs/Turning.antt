@@ -21,7 +21,10 @@ use Rattle.gr_search.specs.Turns.{asked_by, IsLawful, AsksFresh, AsksInTime, Goe
 use Rattle.gr_search.specs.Offers.{HasShortClause}
 use Rattle.gr_search.specs.Keeping.{IsProved}
 use Rattle.gr_search.specs.Counting.{CountState}
-use Rattle.gr_search.specs.Solvers.{asked_in, ended_by, view_of, IsWaiting, IsSearching, IsSearchingUnlessDone, IsBegunWith, IsAsking, HasGoneOn, HasEnded, HasTurned, MayBeTold}
+use Rattle.gr_search.specs.Solvers.{asked_in, IsWaiting, MayBeTold}
+use Rattle.gr_search.specs.TakingOver.{ended_by}
+use Rattle.gr_search.specs.SolverTurns.{IsAsking, HasGoneOn, HasEnded, HasTurned}
+use Rattle.gr_search.specs.SolverViews.{view_of, IsSearching, IsSearchingUnlessDone, IsBegunWith}
 use Rattle.gr_search.proofs.Lawful.{derived-clauses-may-be-learnt, derived-units-may-be-added, held-ids-may-go, others-may-be-asked}
 use Rattle.gr_search.proofs.Holding.{HasOwnPlaces, held-nothing}
 use Rattle.gr_search.proofs.KnownClauses.{holds-first}

@@ -57,7 +57,8 @@ pub open-step : (present : List Bool) (lits : List Literal) (i : ℕ) (d : Liter
     → (get_or lits i d).index < length present → IsOpenFor present (take (i + 1) lits)
     → IsOpenFor (set present (get_or lits i d).index true) (take i lits)
 open-step present lits i d low known holds j within free =
-    elim (cases_eq j (get_or lits i d).index) as (λ _. get_or (set present (get_or lits i d).index true) j false ≡ true) [
+    elim (cases_eq j (get_or lits i d).index)
+    as (λ _. get_or (set present (get_or lits i d).index true) j false ≡ true) [
       | inl same ↦ subst (λ n. get_or (set present (get_or lits i d).index true) n false ≡ true) (sym same)
           (get_or-set_same present (get_or lits i d).index true false known)
       | inr apart ↦
@@ -78,7 +79,8 @@ lacks-up b (x ∷ xs) (suc n) j low free =
     let here : nat_le x.level b ≡ true = le-leb x.level b (low 0 x (omega arith) refl) in
     let kept : Lacks (x.lit ∷ lits_of (up_to b xs)) j =
     subst (λ (t : Bool). Lacks (lits_of (if t then x ∷ up_to b xs else up_to b xs)) j) here free in
-    All-cons (λ q. q.index ≢ j) x.lit (take n (lits_of xs)) (All-head (λ q. q.index ≢ j) x.lit (lits_of (up_to b xs)) kept)
+    All-cons (λ q. q.index ≢ j) x.lit (take n (lits_of xs))
+    (All-head (λ q. q.index ≢ j) x.lit (lits_of (up_to b xs)) kept)
     (lacks-up b xs n j (λ k a lt at. low (suc k) a (omega (arith, lt)) at)
     (All-tail (λ q. q.index ≢ j) x.lit (lits_of (up_to b xs)) kept))
 

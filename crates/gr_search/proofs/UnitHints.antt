@@ -122,7 +122,8 @@ hints-more k l x seen hints a is made old = record {
 
     step : (live : Live) (set : LiteralSet) (tail : List ℕ) → Cites live k
         → (w : LeadsOn live l seen set hints (is.clause.id ∷ tail))
-        → (reading w.reached (negation x ∷ []) ≡ Falsified) ⊎ (reading w.reached (negation x ∷ []) ≡ Forces (negation x))
+        → (reading w.reached (negation x ∷ []) ≡ Falsified)
+        ⊎ (reading w.reached (negation x ∷ []) ≡ Forces (negation x))
         → (steps live set ((hints ++ is.clause.id ∷ []) ++ tail) ≡ Accepted)
         ⊎ LeadsOn live l (seen ++ x ∷ []) set (hints ++ is.clause.id ∷ []) tail
     step live set tail cites w (inl read) =

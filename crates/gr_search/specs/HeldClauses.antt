@@ -36,8 +36,8 @@ pub record IsUnderOwnId (last : ℕ) (k : Clauses) (c : List Literal) : Type 0 w
   pub own : clause.id ≤ last
   pub is : set.contains clause.literals ≡ members c
 
--- what no turn changes: those whose ids are the formula's are its clauses, and each of its clauses is there under such an
--- id but tautologies
+-- what no turn changes: those whose ids are the formula's are its clauses, and each of its clauses is there under
+-- such an id but tautologies
 pub record HoldsFormula (f : Cnf) (k : Clauses) : Type 0 where
   pub cited : (place : ℕ) (c : BaseClause) → finite.get k place ≡ Some c → c.id ≤ length f.clauses
       → family_of (finite.get (initial_state f).live) c.id ≡ Some (set.contains c.literals)

@@ -11,4 +11,7 @@ pub mod Keeping
 pub mod Settling
 pub mod HeldClauses
 pub mod Solvers
+pub mod TakingOver
+pub mod SolverTurns
+pub mod SolverViews
 pub mod Offers

@@ -23,7 +23,7 @@ pub struct SearchState<'a> {
 impl<'a> Model for SearchState<'a> {
     ghost use Rattle.gr_search.specs.Searches.{SearchView};
     ghost use Rattle.gr_search.specs.SearchCodes.{search_code};
-    ghost use Rattle.gr_search.specs.Solvers.{view_of, IsSearchingUnlessDone};
+    ghost use Rattle.gr_search.specs.SolverViews.{view_of, IsSearchingUnlessDone};
 
     ghost Value = { SearchView };
 

@@ -1,10 +1,11 @@
 use Rattle.std.proofs.Common.{◌≡◌, ◌-◌, ◌<◌, ◌+◌, ℕ, true, length, take, get_or, refl, sym, ap, ◌∙◌, subst, arith, length-set}
 use Rattle.std.proofs.Math.Seq.{take-length}
 use Rattle.gr_logic.specs.Literals.{Literal}
+use Rattle.gr_trail.specs.Trails.{up_to}
 use Rattle.gr_search.specs.Deciding.{HoldsOpen}
 use Rattle.gr_heur.specs.Orders.{OrderState}
 use Rattle.gr_search.proofs.Undecided.{IsOpenFor, open-lits, lits-open, open-step, lacks-up}
-use Rattle.gr_search.proofs.TrailLiterals.{stands, is-assigned, is-known, low-before}
+use Rattle.gr_search.proofs.TrailLiterals.{stands, is-assigned, known-at, low-before}
 use Rattle.gr_search.proofs.choosing.Chooser.go_back.Goals as goal
 
 pub loop-index-init : goal.loop-index-init
@@ -34,7 +35,7 @@ returns-then-level-clause-undecided c =
     c.lits-lits.ensures.lits (omega arith) c.index-lits-index.is in
     let low = low-before c.args.trail.now (c.loop-index.index - 1) c.index-lits-index.result c.var.result c.level.result
     c.args.level c.lits-lits.ensures.trail at c.var.ensures.number c.level.ensures c.if-level.true in
-    lits-open c.loop-index.self-inside.order.present (Rattle.gr_trail.specs.Trails.up_to c.args.level c.args.trail.now.assigned)
+    lits-open c.loop-index.self-inside.order.present (up_to c.args.level c.args.trail.now.assigned)
     (λ j known free. c.loop-index.invariant.holds j known
     (subst (λ ls. Rattle.gr_trail.proofs.Truths.Lacks (take c.loop-index.index ls) j) (sym c.lits-lits.ensures.lits)
     (lacks-up c.args.level c.args.trail.now.assigned c.loop-index.index j
@@ -42,33 +43,19 @@ returns-then-level-clause-undecided c =
 
 pub put_back-requires-clause-high : goal.put_back-requires-clause-high
 put_back-requires-clause-high c =
-    let within = c.loop-index.invariant.within in
-    let at = stands c.args.trail.now.assigned c.lits-lits.result.now (c.loop-index.index - 1) c.index-lits-index.result
-    c.lits-lits.ensures.lits (omega arith) c.index-lits-index.is in
-    let known = is-known c.args.trail.now (c.loop-index.index - 1) c.index-lits-index.result c.lits-lits.ensures.trail at in
-    omega (
-      arith,
-      known,
-      c.requires.vars,
-      c.loop-index.invariant.sized,
-      c.loop-index.invariant.kept.known,
-      c.var-in-loop-index.ensures.number,
-    )
+    let inv = c.loop-index.invariant in
+    let within = inv.within in
+    let known = known-at c.args.trail.now c.lits-lits.result.now (c.loop-index.index - 1) c.index-lits-index.result
+    c.lits-lits.ensures.trail c.lits-lits.ensures.lits (omega arith) c.index-lits-index.is in
+    omega (arith, known, c.requires.vars, inv.sized, inv.kept.known, c.var-in-loop-index.ensures.number)
 
 pub save-requires : goal.save-requires
 save-requires c =
-    let within = c.loop-index.invariant.within in
-    let at = stands c.args.trail.now.assigned c.lits-lits.result.now (c.loop-index.index - 1) c.index-lits-index.result
-    c.lits-lits.ensures.lits (omega arith) c.index-lits-index.is in
-    let known = is-known c.args.trail.now (c.loop-index.index - 1) c.index-lits-index.result c.lits-lits.ensures.trail at in
-    omega (
-      arith,
-      known,
-      c.requires.vars,
-      c.loop-index.invariant.sized,
-      c.loop-index.invariant.kept.known,
-      c.loop-index.invariant.kept.signed,
-    )
+    let inv = c.loop-index.invariant in
+    let within = inv.within in
+    let known = known-at c.args.trail.now c.lits-lits.result.now (c.loop-index.index - 1) c.index-lits-index.result
+    c.lits-lits.ensures.trail c.lits-lits.ensures.lits (omega arith) c.index-lits-index.is in
+    omega (arith, known, c.requires.vars, inv.sized, inv.kept.known, inv.kept.signed)
 
 pub loop-index-preserved : goal.loop-index-preserved
 loop-index-preserved c =
@@ -78,8 +65,8 @@ loop-index-preserved c =
     let ls = c.lits-lits.result.now in
     let lit = c.index-lits-index.result in
     let i = c.loop-index.index - 1 in
-    let at = stands c.args.trail.now.assigned ls i lit c.lits-lits.ensures.lits (omega arith) c.index-lits-index.is in
-    let known = is-known c.args.trail.now i lit c.lits-lits.ensures.trail at in
+    let known = known-at c.args.trail.now ls i lit c.lits-lits.ensures.trail c.lits-lits.ensures.lits (omega arith)
+    c.index-lits-index.is in
     let present = c.loop-index.self-inside.order.present in
     let put : c.put_back.new.self.present ≡ Rattle.std.proofs.Common.set present lit.index true =
     ap (λ (s : OrderState). s.present) c.put_back.ensures

@@ -1,6 +1,6 @@
 -- the solver's turn is the search's
 use Rattle.std.proofs.Common.{sym, subst}
-use Rattle.gr_search.specs.Solvers.{view_of}
+use Rattle.gr_search.specs.SolverViews.{view_of}
 use Rattle.gr_search.specs.Tellings.{Answers}
 use Rattle.gr_search.specs.Turns.{IsTurn}
 use Rattle.gr_search.proofs.Telling.{not-done, may-be-told}

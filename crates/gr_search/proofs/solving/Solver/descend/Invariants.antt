@@ -1,6 +1,7 @@
 -- each round decides a variable more
 use Rattle.std.proofs.Common.{◌≡◌, ◌-◌, length}
-use Rattle.gr_search.specs.Solvers.{IsSteady, Stays}
+use Rattle.gr_search.specs.Solvers.{IsSteady}
+use Rattle.gr_search.specs.TakingOver.{Stays}
 use Rattle.gr_search.proofs.solving.Solver.descend.Given as goal
 
 abbrev pub invariant-loop-place : goal.invariant-loop-place

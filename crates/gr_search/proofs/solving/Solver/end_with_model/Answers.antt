@@ -6,7 +6,7 @@ use Rattle.gr_search.specs.declared.asks.Found.TheVariants.{Model}
 use Rattle.gr_search.specs.declared.solving.Solver.{Solver}
 use Rattle.gr_search.specs.declared.solving.Request.TheVariants.{Done}
 use Rattle.gr_search.specs.Keeping.{MakesTrue}
-use Rattle.gr_search.specs.Solvers.{HasSearched}
+use Rattle.gr_search.specs.SolverTurns.{HasSearched}
 use Rattle.gr_search.proofs.Asking.{is-model-of}
 use Rattle.gr_search.proofs.solving.Solver.end_with_model.Goals as goal
 

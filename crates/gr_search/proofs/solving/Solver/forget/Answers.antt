@@ -3,7 +3,8 @@ use Rattle.gr_trail.specs.Trails.{TrailState}
 use Rattle.gr_import.specs.Imports.{IsNoReason}
 use Rattle.gr_search.specs.Counting.{CountState}
 use Rattle.gr_search.specs.Keeping.{IsKept}
-use Rattle.gr_search.specs.Solvers.{IsReadyFor, MayForget, MayLearnMore, AreLeft, ClausesLeft}
+use Rattle.gr_search.specs.Solvers.{IsReadyFor, MayForget, MayLearnMore}
+use Rattle.gr_search.specs.TakingOver.{AreLeft, ClausesLeft}
 use Rattle.gr_search.specs.declared.solving.Request.{Request}
 use Rattle.gr_search.proofs.Steady.{all-settled, kept-compacted}
 use Rattle.gr_search.proofs.Forgettable.{weak-unneeded, kept-left, without-compacted}

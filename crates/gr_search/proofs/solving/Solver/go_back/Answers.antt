@@ -14,7 +14,7 @@ returns-clause-steady c =
           (sym c.backtrack.ensures)
           (kept-back s.vars s.base.clauses s.base.trail s.settled s.chooser c.go_back.new.self c.args.level
           c.requires.steady.kept c.go_back.ensures.length
-          (subst (λ (t : TrailState). HoldsOpen c.go_back.new.self (up_to c.args.level t.assigned)) c.trail.ensures.trail
-          c.go_back.ensures.undecided));
+          (subst (λ (t : TrailState). HoldsOpen c.go_back.new.self (up_to c.args.level t.assigned))
+          c.trail.ensures.trail c.go_back.ensures.undecided));
       analyzer = c.requires.steady.analyzer;
     }

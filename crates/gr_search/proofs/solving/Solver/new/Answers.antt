@@ -15,8 +15,9 @@ returns c =
     record {
       waiting = record {
         steady = record {
-          kept = kept-begun vars base.clauses base.trail c.in_ok-new-2.field-0 (c.in_ok-base_of.ensures.vars ∙ sym known)
-              small (c.in_ok-new-2.ensures ∙ ap (λ (n : ℕ). replicate n true) (sym known));
+          kept = kept-begun vars base.clauses base.trail c.in_ok-new-2.field-0
+              (c.in_ok-base_of.ensures.vars ∙ sym known) small
+              (c.in_ok-new-2.ensures ∙ ap (λ (n : ℕ). replicate n true) (sym known));
           analyzer = c.in_ok-new.ensures.vars;
         };
         ready = c.in_ok-base_of.ensures.ground;

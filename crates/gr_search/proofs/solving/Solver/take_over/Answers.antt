@@ -1,7 +1,8 @@
 use Rattle.std.proofs.Common.{sym, ◌∙◌, subst, arith, refl}
 use Rattle.gr_search.specs.declared.asks.Told.{Told}
 use Rattle.gr_search.specs.declared.asks.Told.TheVariants.{Imported}
-use Rattle.gr_search.specs.Solvers.{MayBeTold, MayComeIn, IsReadyFor, IsGrounded, MayLearnMore, HasTakenOver}
+use Rattle.gr_search.specs.Solvers.{MayBeTold, MayComeIn, IsReadyFor, IsGrounded, MayLearnMore}
+use Rattle.gr_search.specs.TakingOver.{HasTakenOver}
 use Rattle.gr_search.proofs.Steady.{kept-imported, added-depth}
 use Rattle.gr_search.proofs.solving.Solver.take_over.Goals as goal
 
@@ -39,7 +40,7 @@ returns-in_ok-import-in-Imported-clause-none c =
       tally = refl;
       settled = omega arith;
       more = subst (MayLearnMore s) come.asked c.requires.waiting.more;
-      grounded = λ _. added-depth (record s.base { clauses = imported.left }) d a.new imported.lbd a.clause imported.place
-          imported.added ∙ grounded.ground;
+      grounded = λ _. added-depth (record s.base { clauses = imported.left }) d a.new imported.lbd a.clause
+          imported.place imported.added ∙ grounded.ground;
     } in
     subst (λ (t : Told). HasTakenOver s t (record s { base = d })) (sym a.is) over

@@ -1,6 +1,6 @@
 use Rattle.std.proofs.Common.{◌∙◌, take, get_or}
 use Rattle.gr_search.proofs.Forgettable.{left-more, unneeded-left}
-use Rattle.gr_search.proofs.solving.remove_all.Goals as goal
+use Rattle.gr_search.proofs.taking.remove_all.Goals as goal
 
 pub remove-requires : goal.remove-requires
 remove-requires c =

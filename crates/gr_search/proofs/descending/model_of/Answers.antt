@@ -2,7 +2,7 @@ use Rattle.std.proofs.Common.{◌≡◌, ◌<◌, ◌-◌, ℕ, Bool, List, true
 use Rattle.gr_logic.specs.Truth.{literal_true}
 use Rattle.gr_search.proofs.TrailLiterals.{stands, is-known}
 use Rattle.gr_search.proofs.TrueLiterals.{AreTrueUpTo, true-more, all-true, lits-length}
-use Rattle.gr_search.proofs.solving.model_of.Goals as goal
+use Rattle.gr_search.proofs.descending.model_of.Goals as goal
 
 pub set-requires-clause-high : goal.set-requires-clause-high
 set-requires-clause-high c =

@@ -1,7 +1,7 @@
 use Rattle.std.proofs.Common.{ap}
 use Rattle.gr_prop.specs.Bases.{BaseState}
 use Rattle.gr_search.proofs.Forgettable.{left-one}
-use Rattle.gr_search.proofs.solving.remove.Goals as goal
+use Rattle.gr_search.proofs.taking.remove.Goals as goal
 
 pub returns-in-Some-clause-clauses : goal.returns-in-Some-clause-clauses
 returns-in-Some-clause-clauses c =

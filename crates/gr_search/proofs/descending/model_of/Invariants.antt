@@ -1,7 +1,7 @@
 -- the literals so far are true
 use Rattle.std.proofs.Common.{◌≡◌, length}
 use Rattle.gr_search.proofs.TrueLiterals.{AreTrueUpTo}
-use Rattle.gr_search.proofs.solving.model_of.Given as goal
+use Rattle.gr_search.proofs.descending.model_of.Given as goal
 
 abbrev pub invariant-loop-lit : goal.invariant-loop-lit
 invariant-loop-lit l = record {
