@@ -3,7 +3,7 @@ ghost use Rattle.std.specs.Prelude.{◌≡◌, ◌≤◌, ◌<◌, ◌+◌, ◌^
 ghost use Rattle.std.specs.HashMap.{get, spare, Updates};
 ghost use Rattle.std.specs.FinSet as set;
 ghost use Rattle.gr_logic.specs.WorkLists.{best};
-ghost use Rattle.gr_work.specs.WorkSets.{is_in};
+ghost use Rattle.gr_work.specs.WorkSets.{is_in, without};
 ghost use Rattle.gr_bench.specs.Tables.{table_of, offered, crowded_out, item_ids, taken_off, HoldsWork, given_to};
 
 use crate::books::Books;
@@ -11,6 +11,7 @@ use crate::holdings::{drop_both, give_both};
 use crate::offers::Offer;
 use gr_hold::Holder;
 use gr_logic::{Clause, Item, OutOfMemory};
+use gr_work::WorkSet;
 use std::collections::HashMap;
 
 impl Books {
@@ -78,11 +79,19 @@ impl Books {
     {
         self.holders.give(item.id, Holder::Actor(actor))?;
         self.holders.drop_hold(item.id, Holder::Work);
-        self.work.take_best();
+        take_out(&mut self.work, item);
         let clause = self.offers.remove(&item.id).unwrap();
         self.note_taken(actor, Some(item.id));
         Ok(clause)
     }
+}
+
+/// The best item leaves the work list.
+fn take_out(work: &mut WorkSet, item: Item)
+    requires { best work.old.items ≡ Some item }
+    ensures rest { work.new ≡ record work.old { items = without (Some item) work.old.items } }
+{
+    work.take_best();
 }
 
 /// Puts the clause under an id into the room that there is.
