@@ -1,17 +1,16 @@
 -- how a run ends
-use Rattle.std.proofs.Common.{◌≡◌, ℕ, Bool, true, false, ◌||◌, ◌∙◌, List, [], ◌∷◌, ◌++◌, append-nil, refl, sym, ap, subst}
+use Rattle.std.proofs.Common.{◌≡◌, ◌≤◌, ℕ, Bool, true, false, ◌||◌, ◌∙◌, List, [], ◌∷◌, ◌++◌, append-nil, refl, sym, ap, subst}
 use Rattle.std.specs.List.{list_any}
 use mathlib.Core.List.{IsPrefix}
 use Rattle.std.proofs.lemmas.List.Folds.{list_any-append}
 use Rattle.gr_logic.specs.Formulas.{Cnf}
 use Rattle.gr_diary.specs.declared.entries.Entry.{Entry}
 use Rattle.gr_diary.specs.declared.entries.Entry.TheVariants as entry
-use Rattle.gr_diary.specs.Entries.{is_close, adds_empty}
+use Rattle.gr_diary.specs.Entries.{is_close, is_learn, adds_empty}
 use Rattle.gr_diary.specs.Histories.{IsLegal, IsClosed, AddsEmptyClause, learn_count}
 use Rattle.gr_diary.specs.SearchRules.{forget_count}
-use Rattle.gr_diary.specs.Tallies.{tally_of}
 use Rattle.gr_diary.proofs.Ends.{histories-grow, states-tell-the-end, nothing-follows-the-end}
-use Rattle.gr_diary.proofs.Tallies.{tallies-tell-the-rules, tally-push}
+use Rattle.gr_diary.proofs.Tallies.{one-more}
 use Rattle.gr_search.specs.declared.asks.Ask.TheVariants as ask
 use Rattle.gr_search.specs.declared.asks.Found.{Found}
 use Rattle.gr_search.specs.declared.asks.Found.TheVariants.{Refuted}
@@ -21,12 +20,8 @@ use Rattle.gr_search.specs.Turns.{IsTurn}
 use Rattle.gr_run.specs.Moves.{IsReached, IsContinued}
 use Rattle.gr_run.specs.Driving.{KeepsRules, IsDriven}
 use Rattle.gr_run.specs.Runs.{IsUnderway, IsFound, IsEnded, IsRun}
-use Rattle.gr_run.proofs.Others.{fits-where, rules-push, rules-reached, unclosed-reached, forgets-reached, others-keep-tally}
+use Rattle.gr_run.proofs.Others.{fits-where, rules-push, rules-reached, unclosed-reached, forgets-reached, learns-are, learns-reached}
 use Rattle.gr_run.proofs.Stepping.{closed-by-empty, one-more-forget}
-
--- the tally counts the learnt clauses
-learns-are : (d : List Entry) → (tally_of d).learns ≡ learn_count d
-learns-are d = (tallies-tell-the-rules d entry.Close).learns
 
 or-none : (b : Bool) → (b || false) ≡ b
 or-none true = refl
@@ -58,21 +53,23 @@ closed-by (x ∷ xs) e = pick (is_close x) (adds_empty x) e (closed-by xs)
 
 module _ (f : Cnf) (reducers capacity limit : ℕ) (keep_all : Bool) where
   pub underway : (d : List Entry) (v : SearchView) (told : Told)
-      → IsDriven f reducers capacity limit keep_all d v told → IsUnderway f reducers capacity keep_all d
+      → IsDriven f reducers capacity limit keep_all d v told → IsUnderway f reducers capacity limit keep_all d
   underway d v told driven = record {
     legal = driven.legal;
     rules = driven.rules;
     unclosed = driven.unclosed;
     kept = driven.kept;
+    within = driven.within;
   }
 
-  pub underway-reached : (d p : List Entry) → IsUnderway f reducers capacity keep_all d
-      → IsReached f reducers capacity d p → IsUnderway f reducers capacity keep_all p
+  pub underway-reached : (d p : List Entry) → IsUnderway f reducers capacity limit keep_all d
+      → IsReached f reducers capacity d p → IsUnderway f reducers capacity limit keep_all p
   underway-reached d p u r = record {
     legal = r.legal;
     rules = rules-reached f reducers capacity d p r u.rules;
     unclosed = unclosed-reached f reducers capacity d p r u.unclosed;
     kept = λ is. forgets-reached f reducers capacity d p r ∙ u.kept is;
+    within = subst (λ n. n ≤ limit) (sym (learns-reached f reducers capacity d p r)) u.within;
   }
 
   -- a search that is done found what it says
@@ -93,12 +90,15 @@ module _ (f : Cnf) (reducers capacity limit : ℕ) (keep_all : Bool) where
 
   -- the searching thread ends the history
   module _ (d after : List Entry) (c : IsContinued f reducers capacity d entry.Close after)
-      (u : IsUnderway f reducers capacity keep_all d)
+      (u : IsUnderway f reducers capacity limit keep_all d)
     where
-      at : IsUnderway f reducers capacity keep_all c.place
+      at : IsUnderway f reducers capacity limit keep_all c.place
       at = underway-reached d c.place u c.reached
 
-      pub ended-by-close : IsEnded f reducers capacity keep_all after
+      learns-after : learn_count after ≡ learn_count c.place
+      learns-after = ap learn_count (sym c.splits) ∙ one-more is_learn c.place entry.Close
+
+      pub ended-by-close : IsEnded f reducers capacity limit keep_all after
       ended-by-close = record {
         legal = c.legal;
         rules = subst (KeepsRules f reducers capacity) c.splits
@@ -108,6 +108,7 @@ module _ (f : Cnf) (reducers capacity limit : ℕ) (keep_all : Bool) where
             ∙ list_any-append (λ x. is_close x || adds_empty x) c.place (entry.Close ∷ [])
             ∙ or-true (list_any (λ x. is_close x || adds_empty x) c.place);
         kept = λ is. ap forget_count (sym c.splits) ∙ one-more-forget c.place entry.Close refl ∙ at.kept is;
+        within = subst (λ n. n ≤ limit) (sym learns-after) at.within;
       }
         where
           or-true : (b : Bool) → (b || true) ≡ true
@@ -134,24 +135,25 @@ module _ (f : Cnf) (reducers capacity limit : ℕ) (keep_all : Bool) where
           λ adds. absurd (let no = no-empty (empty-before c.place (subst AddsEmptyClause (sym c.splits) adds)) in
               cc no),
         );
-        spent = λ is. sym (learns-are after) ∙ ap (λ z. (tally_of z).learns) (sym c.splits)
-            ∙ ap (λ (t : Rattle.gr_diary.specs.Tallies.Tally). t.learns) (tally-push c.place entry.Close)
-            ∙ ap (λ z. (tally_of z).learns) (sym c.reached.splits)
-            ∙ ap (λ (t : Rattle.gr_diary.specs.Tallies.Tally). t.learns)
-            (others-keep-tally c.reached.between d c.reached.others)
-            ∙ learns-are d ∙ found.spent is;
+        spent = λ is. learns-after ∙ learns-reached f reducers capacity d c.place c.reached ∙ found.spent is;
         model = found.model;
       }
 
   -- the history was closed before
   module _ (d after : List Entry) (r : IsReached f reducers capacity d after) (closed : IsClosed after)
-      (u : IsUnderway f reducers capacity keep_all d)
+      (u : IsUnderway f reducers capacity limit keep_all d)
     where
-      abbrev at-end : IsUnderway f reducers capacity keep_all after
+      abbrev at-end : IsUnderway f reducers capacity limit keep_all after
       at-end = underway-reached d after u r
 
-      pub ended-before : IsEnded f reducers capacity keep_all after
-      ended-before = record { legal = at-end.legal; rules = at-end.rules; closed = closed; kept = at-end.kept }
+      pub ended-before : IsEnded f reducers capacity limit keep_all after
+      ended-before = record {
+        legal = at-end.legal;
+        rules = at-end.rules;
+        closed = closed;
+        kept = at-end.kept;
+        within = at-end.within;
+      }
 
       pub run-ended-before : IsRun f reducers capacity limit keep_all after Refuted
       run-ended-before = record {

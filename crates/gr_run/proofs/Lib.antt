@@ -4,6 +4,7 @@ pub mod Holding
 pub mod Parts
 pub mod Asking
 pub mod Telling
+pub mod Waiting
 pub mod Stepping
 pub mod Beginning
 pub mod Ending

@@ -1,5 +1,5 @@
 -- a search over an exchange of its own
-use Rattle.std.proofs.Common.{◌≡◌, ◌≢◌, ℕ, Bool, false, ◌∙◌, List, [], ◌∷◌, refl, sym, subst, All}
+use Rattle.std.proofs.Common.{◌≡◌, ◌≢◌, ◌≤◌, ℕ, Bool, false, ◌∙◌, List, [], ◌∷◌, refl, sym, subst, All}
 use Rattle.std.specs.Prelude.{◌↔◌}
 use Rattle.std.proofs.lemmas.List.Elements.{All-nil, All-cons, All-append}
 use Rattle.gr_logic.specs.Formulas.{Cnf}
@@ -49,10 +49,10 @@ from-exchange P x y t p = subst (P x.formula x.reducers) t.capacity
 
 -- a search over a history with no entries
 pub driven-from-nothing : (f : Cnf) (reducers capacity limit : ℕ) (keep_all : Bool) (v : SearchView)
-    → IsBegun f limit keep_all v → (d : List Entry) → d ≡ []
+    → IsBegun f limit keep_all v → 1 ≤ limit → (d : List Entry) → d ≡ []
     → IsDriven f reducers capacity limit keep_all d v Start
-driven-from-nothing f reducers capacity limit keep_all v begun d none =
-    driven-at-first f reducers capacity limit keep_all v begun d
+driven-from-nothing f reducers capacity limit keep_all v begun some d none =
+    driven-at-first f reducers capacity limit keep_all v begun some d
     (subst AreOthers (sym none) (All-nil (λ e. actor_of e ≢ 0)))
     (subst (IsLegal f reducers capacity) (sym none) tt)
 

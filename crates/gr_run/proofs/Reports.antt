@@ -10,10 +10,24 @@ use Rattle.gr_search.specs.declared.asks.Found.{Found}
 use Rattle.gr_search.specs.declared.asks.Found.TheVariants.{Model, Refuted, Spent}
 use Rattle.gr_run.specs.declared.options.SolveOptions.{SolveOptions}
 use Rattle.gr_run.specs.declared.results.Ran.{Ran}
-use Rattle.gr_run.specs.Runs.{Satisfies, IsRun}
-use Rattle.gr_run.specs.Results.{IsRan}
+use Rattle.gr_run.specs.declared.results.Verdict.TheVariants.{Unknown}
+use Rattle.gr_run.specs.Runs.{Satisfies, IsRun, HasRoom}
+use Rattle.gr_run.specs.Results.{IsBudgeted, IsRan}
 use Rattle.gr_run.proofs.Budgets.{budgeted}
 use Rattle.gr_run.specs.Verdicts.{verdict_of, model_of}
+
+spent-of : (found : Found) → verdict_of found ≡ Unknown → found ≡ Spent
+spent-of (Model m) is = absurd (cc is)
+spent-of Refuted is = absurd (cc is)
+spent-of Spent is = refl
+
+-- where a search has room, its run ends with a verdict
+budget-of : (f : Cnf) (o : SolveOptions) (found : Found) (ran : Ran) → ran.verdict ≡ verdict_of found
+    → HasRoom f o.conflicts o.keep_all found → IsBudgeted f o ran
+budget-of f o found ran verdict room = record {
+  keeping = λ keeps enough is. room.keeping keeps enough (spent-of found (sym verdict ∙ is));
+  sparing = λ q more enough is. room.sparing q more enough (spent-of found (sym verdict ∙ is));
+}
 
 pub reported : (f : Cnf) (o : SolveOptions) (found : Found) (ran : Ran) → ran.verdict ≡ verdict_of found
     → ran.model ≡ model_of found → Tells f o.reducers o.capacity ran.diary
@@ -27,7 +41,8 @@ reported f o (Model m) ran verdict model tells ids run = record {
   satisfiable = λ _. subst (Satisfies f) (sym model) (run.model m refl);
   unknown = λ is. absurd (cc (is, verdict));
   bare = λ not. absurd (not verdict);
-  budget = record { keeping = λ _ _ is. cc (is, verdict); sparing = λ q _ _ is. cc (is, verdict) };
+  budget = budget-of f o (Model m) ran verdict
+      (budgeted f o.reducers o.capacity o.conflicts o.keep_all ran.diary.entries (Model m) run);
 }
 reported f o Refuted ran verdict model tells ids run = record {
   tells = tells;
@@ -37,7 +52,8 @@ reported f o Refuted ran verdict model tells ids run = record {
   satisfiable = λ is. absurd (cc (is, verdict));
   unknown = λ is. absurd (cc (is, verdict));
   bare = λ _. model;
-  budget = record { keeping = λ _ _ is. cc (is, verdict); sparing = λ q _ _ is. cc (is, verdict) };
+  budget = budget-of f o Refuted ran verdict
+      (budgeted f o.reducers o.capacity o.conflicts o.keep_all ran.diary.entries Refuted run);
 }
 reported f o Spent ran verdict model tells ids run = record {
   tells = tells;
@@ -47,11 +63,8 @@ reported f o Spent ran verdict model tells ids run = record {
   satisfiable = λ is. absurd (cc (is, verdict));
   unknown = λ _. run.spent refl;
   bare = λ _. model;
-  budget =
-      let b = budgeted f o.reducers o.capacity o.conflicts o.keep_all ran.diary.entries Spent run in record {
-        keeping = λ keeps enough _. b.keeping keeps enough refl;
-        sparing = λ q more enough _. b.sparing q more enough refl;
-      };
+  budget = budget-of f o Spent ran verdict
+      (budgeted f o.reducers o.capacity o.conflicts o.keep_all ran.diary.entries Spent run);
 }
 
 -- a run over an exchange with the options' sizes is one with these options

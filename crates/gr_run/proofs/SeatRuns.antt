@@ -1,5 +1,5 @@
 -- a search from a seat
-use Rattle.std.proofs.Common.{◌≡◌, ◌≢◌, ℕ, Bool, ◌∙◌, List, [], ◌∷◌, ◌++◌, append-nil, append_assoc, refl, sym, ap, subst, All, OnErr, Ok, Err}
+use Rattle.std.proofs.Common.{◌≡◌, ◌≢◌, ◌≤◌, ℕ, Bool, ◌∙◌, List, [], ◌∷◌, ◌++◌, append-nil, append_assoc, refl, sym, ap, subst, arith, All, OnErr, Ok, Err}
 use Rattle.std.specs.declared.result.Result.{Result}
 use mathlib.Core.List.{IsPrefix}
 use Rattle.std.proofs.lemmas.List.Elements.{All-nil, All-cons, All-head, All-tail, All-append}
@@ -76,19 +76,19 @@ from-seat P x y t p = subst (P x.formula x.reducers) t.same.capacity
 
 -- a search from a seat that was not used
 pub driven-unused : (limit : ℕ) (keep_all : Bool) (v : SearchView) (s : Handle) → IsBegun s.formula limit keep_all v
-    → entries_of s.seen 0 ≡ [] → HasSeenLegal s
+    → 1 ≤ limit → entries_of s.seen 0 ≡ [] → HasSeenLegal s
     → IsDriven s.formula s.reducers s.capacity limit keep_all s.seen v Start
-driven-unused limit keep_all v s begun unused legal =
-    driven-at-first s.formula s.reducers s.capacity limit keep_all v begun s.seen (none-own s.seen unused) legal
+driven-unused limit keep_all v s begun some unused legal =
+    driven-at-first s.formula s.reducers s.capacity limit keep_all v begun some s.seen (none-own s.seen unused) legal
 
 -- a search that is driven stands
 pub stands : (offer limit : ℕ) (keep_all : Bool) (post : ℕ → ℕ → Bool → Type 0) (x y : Handle) (v : SearchView)
     (told : Told) → AnswersUpTo offer post → SeesMore x y
     → IsDriven x.formula x.reducers x.capacity limit keep_all y.seen v told → AreFilteredBy post y.seen
-    → IsStanding offer keep_all x y
+    → IsStanding offer limit keep_all x y
 stands offer limit keep_all post x y v told bounded sees driven filtered = record {
   sees = sees;
-  underway = at-seat (λ f reducers capacity. IsUnderway f reducers capacity keep_all y.seen) x y sees
+  underway = at-seat (λ f reducers capacity. IsUnderway f reducers capacity limit keep_all y.seen) x y sees
       (underway x.formula x.reducers x.capacity limit keep_all y.seen v told driven);
   offered = offers-up-to x.formula x.reducers x.capacity offer post bounded y.seen driven.legal filtered;
 }
@@ -116,18 +116,18 @@ offered-reached offer f reducers capacity d p r all =
     (All-append (IsOfferedUpTo offer) d r.between all (others-offered offer r.between r.others))
 
 -- a seat that was not used stands
-pub stands-unused : (offer : ℕ) (keep_all : Bool) (s : Handle) → entries_of s.seen 0 ≡ [] → HasSeenLegal s
-    → IsStanding offer keep_all s s
-stands-unused offer keep_all s unused legal = record {
+pub stands-unused : (offer limit : ℕ) (keep_all : Bool) (s : Handle) → entries_of s.seen 0 ≡ [] → HasSeenLegal s
+    → IsStanding offer limit keep_all s s
+stands-unused offer limit keep_all s unused legal = record {
   sees = sees-itself s legal;
-  underway = underway-reached s.formula s.reducers s.capacity 0 keep_all [] s.seen nothing r;
+  underway = underway-reached s.formula s.reducers s.capacity limit keep_all [] s.seen nothing r;
   offered = offered-reached offer s.formula s.reducers s.capacity [] s.seen r (All-nil (IsOfferedUpTo offer));
 }
   where
     r : IsReached s.formula s.reducers s.capacity [] s.seen
     r = record { between = s.seen; others = none-own s.seen unused; splits = refl; legal = legal }
 
-    nothing : IsUnderway s.formula s.reducers s.capacity keep_all []
+    nothing : IsUnderway s.formula s.reducers s.capacity limit keep_all []
     nothing = record {
       legal = tt;
       rules = record {
@@ -138,34 +138,36 @@ stands-unused offer keep_all s unused legal = record {
       };
       unclosed = refl;
       kept = λ _. refl;
+      within = let none : 0 ≤ limit = omega arith in none;
     }
 
 -- and still where others came
-pub stands-waiting : (offer : ℕ) (keep_all : Bool) (x y z : Handle) → IsStanding offer keep_all x y → HasWaited y z
-    → IsStanding offer keep_all x z
-stands-waiting offer keep_all x y z s w = record {
+pub stands-waiting : (offer limit : ℕ) (keep_all : Bool) (x y z : Handle) → IsStanding offer limit keep_all x y
+    → HasWaited y z → IsStanding offer limit keep_all x z
+stands-waiting offer limit keep_all x y z s w = record {
   sees = sees-after x y z s.sees w.0;
-  underway = at-seat (λ f reducers capacity. IsUnderway f reducers capacity keep_all z.seen) y z w.0
-      (underway-reached y.formula y.reducers y.capacity 0 keep_all y.seen z.seen s.underway w.1);
+  underway = at-seat (λ f reducers capacity. IsUnderway f reducers capacity limit keep_all z.seen) y z w.0
+      (underway-reached y.formula y.reducers y.capacity limit keep_all y.seen z.seen s.underway w.1);
   offered = offered-reached offer y.formula y.reducers y.capacity y.seen z.seen w.1 s.offered;
 }
 
 -- the exchange is closed at last
-module _ (offer : ℕ) (keep_all : Bool) (x y z : Handle) (mine : y.actor ≡ 0) (s : IsStanding offer keep_all x y)
-    (sees : SeesMore y z) (closing : Closing) (done : closing ≡ Done → Makes y z entry.Close Anything)
-    (already : closing ≡ Already → MakesNone y z) (closed : IsClosed z.seen)
+module _ (offer limit : ℕ) (keep_all : Bool) (x y z : Handle) (mine : y.actor ≡ 0)
+    (s : IsStanding offer limit keep_all x y) (sees : SeesMore y z) (closing : Closing)
+    (done : closing ≡ Done → Makes y z entry.Close Anything) (already : closing ≡ Already → MakesNone y z)
+    (closed : IsClosed z.seen)
   where
     abbrev Grows : Closing → Type 0
     Grows c = (c ≡ Done → Makes y z entry.Close Anything) × (c ≡ Already → MakesNone y z)
 
-    pub ended : IsEndedAt keep_all z
-    ended = at-seat (λ f reducers capacity. IsEnded f reducers capacity keep_all z.seen) y z sees
+    pub ended : IsEndedAt limit keep_all z
+    ended = at-seat (λ f reducers capacity. IsEnded f reducers capacity limit keep_all z.seen) y z sees
         (by closing (done, already))
       where
-        by : (c : Closing) → Grows c → IsEnded y.formula y.reducers y.capacity keep_all z.seen
-        by Done grows = ended-by-close y.formula y.reducers y.capacity 0 keep_all y.seen z.seen
+        by : (c : Closing) → Grows c → IsEnded y.formula y.reducers y.capacity limit keep_all z.seen
+        by Done grows = ended-by-close y.formula y.reducers y.capacity limit keep_all y.seen z.seen
             (continued-seen y z mine sees entry.Close Anything refl (grows.0 refl)) s.underway
-        by Already grows = ended-before y.formula y.reducers y.capacity 0 keep_all y.seen z.seen
+        by Already grows = ended-before y.formula y.reducers y.capacity limit keep_all y.seen z.seen
             (reached-seen y z mine sees (grows.1 refl)) closed s.underway
 
     pub offered : All (IsOfferedUpTo offer) z.seen
@@ -181,7 +183,7 @@ module _ (offer : ℕ) (keep_all : Bool) (x y z : Handle) (mine : y.actor ≡ 0)
         by Already grows = offered-reached offer y.formula y.reducers y.capacity y.seen z.seen
             (reached-seen y z mine sees (grows.1 refl)) s.offered
 
-    module _ (limit : ℕ) (what : Found) (found : IsFoundFrom limit keep_all y what) where
+    module _ (what : Found) (found : IsFoundFrom limit keep_all y what) where
       pub run : IsRunFrom limit keep_all z (settled what closing)
       run = at-seat (λ f reducers capacity. IsRun f reducers capacity limit keep_all z.seen (settled what closing)) y z
           sees (by closing (done, already))

@@ -1,6 +1,7 @@
 -- one step: the search asks, the exchange answers, and the search may be told
-use Rattle.std.proofs.Common.{◌≡◌, ◌+◌, inl, inr, ◌||◌, ℕ, Bool, true, false, ◌∙◌, List, [], ◌∷◌, ◌++◌, length, Option, Some, None, refl, sym, ap, subst, arith, nat_eq, if◌then◌else◌, option_to_list}
+use Rattle.std.proofs.Common.{◌≡◌, ◌≤◌, ◌<◌, ◌+◌, inl, inr, ◌||◌, ℕ, Bool, true, false, ◌∙◌, List, [], ◌∷◌, ◌++◌, length, Option, Some, None, refl, sym, ap, subst, arith, nat_eq, if◌then◌else◌, option_to_list}
 use Rattle.std.specs.List.{list_any, filter}
+use Rattle.std.proofs.Math.Arith.{lt_of_le-ne}
 use Rattle.std.proofs.lemmas.List.Folds.{list_any-append}
 use Rattle.std.proofs.lemmas.List.Elements.{filter-append}
 use Rattle.std.proofs.lemmas.List.{length-append}
@@ -10,14 +11,14 @@ use Rattle.gr_logic.specs.Rup.{members, Live}
 use Rattle.gr_logic.specs.Closure.{family_of}
 use Rattle.gr_diary.specs.declared.entries.Entry.{Entry}
 use Rattle.gr_diary.specs.declared.entries.Entry.TheVariants as entry
-use Rattle.gr_diary.specs.Entries.{actor_of, is_close, adds_empty}
+use Rattle.gr_diary.specs.Entries.{actor_of, is_close, is_learn, adds_empty}
 use Rattle.gr_diary.specs.States.{has}
 use Rattle.gr_diary.specs.HoldingLaws as diary
-use Rattle.gr_diary.specs.Histories.{IsLegal, IsClosed, AddsEmptyClause, state_of, clauses_held_by, IsEnabled}
+use Rattle.gr_diary.specs.Histories.{IsLegal, IsClosed, AddsEmptyClause, state_of, clauses_held_by, learn_count, IsEnabled}
 use Rattle.gr_diary.specs.SearchRules.{forget_count, is_solver_forget}
-use Rattle.gr_diary.specs.Tallies.{next_tally}
+use Rattle.gr_diary.specs.Tallies.{Tally, next_tally}
 use Rattle.gr_diary.proofs.Holding.{held-clauses-change}
-use Rattle.gr_diary.proofs.Tallies.{tally-push}
+use Rattle.gr_diary.proofs.Tallies.{tally-push, one-more}
 use Rattle.gr_search.specs.declared.asks.Ask.{Ask}
 use Rattle.gr_search.specs.declared.asks.Ask.TheVariants as ask
 use Rattle.gr_search.specs.declared.asks.Told.{Told}
@@ -25,13 +26,14 @@ use Rattle.gr_search.specs.declared.asks.Told.TheVariants.{Start, Id, Imported, 
 use Rattle.gr_search.specs.Filters.{OffersLow}
 use Rattle.gr_search.specs.Searches.{Learning, Deriving, Importing, Forgetting, SearchView, held_family}
 use Rattle.gr_search.specs.Tellings.{Answers, held_then, tally_then, adds_clause, lets_go, is_open, without_id, IsNewId}
-use Rattle.gr_search.specs.Turns.{asked_by, entry_of, told_to, IsTurn, GoesOn, IsLearning, IsRefuted, IsOfferedBy, AsksInTime}
+use Rattle.gr_search.specs.Turns.{asked_by, entry_of, told_to, IsTurn, IsLearning, IsRefuted, IsSpent, IsOfferedBy, AsksInTime}
 use Rattle.gr_bench.specs.Answers.{IsFirstResult}
 use Rattle.gr_run.specs.Moves.{IsReached, IsToldOf}
-use Rattle.gr_run.specs.Driving.{KeepsRules, IsFollowed, IsDriven}
+use Rattle.gr_run.specs.Driving.{IsDriven}
 use Rattle.gr_run.proofs.Sets.{family-with, family-without, family-without_id}
 use Rattle.gr_run.proofs.Holding.{held-learnt, held-derived, held-forgotten, held-imported}
-use Rattle.gr_run.proofs.Others.{FitsRules, fits-where, rules-push, followed-reached, rules-reached, unclosed-reached, forgets-reached}
+use Rattle.gr_run.proofs.Others.{FitsRules, fits-where, rules-push, learns-are}
+use Rattle.gr_run.proofs.Waiting.{IsAsking, turned, reached}
 use Rattle.gr_run.proofs.Asking.{asked-is-enabled, asked-fits}
 use Rattle.gr_run.proofs.Telling.{next-is-new, may-be-imported}
 
@@ -58,53 +60,7 @@ one-more-forget d e not = ap length (filter-append is_solver_forget d (e ∷ [])
     ∙ ap (λ b. length (filter is_solver_forget d) + length (if b then e ∷ [] else [])) not
     ∙ omega arith
 
--- a search that follows the history, and was told nothing yet of its ask
-pub record IsAsking (f : Cnf) (reducers capacity limit : ℕ) (keep_all : Bool) (d : List Entry) (v : SearchView)
-    (a : Ask) : Type 0
-  where
-    pub legal : IsLegal f reducers capacity d
-    pub rules : KeepsRules f reducers capacity d
-    pub unclosed : list_any is_close d ≡ false
-    pub followed : IsFollowed f reducers capacity d v
-    pub limited : v.limit ≡ limit
-    pub keeping : v.keep_all ≡ keep_all
-    pub kept : keep_all ≡ true → forget_count d ≡ 0
-    pub asked : v.asked ≡ asked_by a
-
 module _ (f : Cnf) (reducers capacity limit : ℕ) (keep_all : Bool) where
-  -- behind a turn the search follows the history
-  pub turned : (d : List Entry) (v : SearchView) (told : Told) (a : Ask) (new : SearchView)
-      → IsDriven f reducers capacity limit keep_all d v told → new.asked ≡ asked_by a → GoesOn v told a new
-      → IsAsking f reducers capacity limit keep_all d new a
-  turned d v told a new driven asked turn = record {
-    legal = driven.legal;
-    rules = driven.rules;
-    unclosed = driven.unclosed;
-    followed = record {
-      formula = turn.formula ∙ driven.followed.formula;
-      held = λ id. ap (λ h. held_family h id) turn.held ∙ driven.followed.held id;
-      tally = turn.tally ∙ driven.followed.tally;
-    };
-    limited = turn.limit ∙ driven.limited;
-    keeping = turn.keep_all ∙ driven.keeping;
-    kept = driven.kept;
-    asked = asked;
-  }
-
-  -- and so where others came
-  reached : (d p : List Entry) (v : SearchView) (a : Ask) → IsAsking f reducers capacity limit keep_all d v a
-      → IsReached f reducers capacity d p → IsAsking f reducers capacity limit keep_all p v a
-  reached d p v a asking r = record {
-    legal = r.legal;
-    rules = rules-reached f reducers capacity d p r asking.rules;
-    unclosed = unclosed-reached f reducers capacity d p r asking.unclosed;
-    followed = followed-reached f reducers capacity d p r v asking.followed;
-    limited = asking.limited;
-    keeping = asking.keeping;
-    kept = λ is. forgets-reached f reducers capacity d p r ∙ asking.kept is;
-    asked = asking.asked;
-  }
-
   -- the searching thread's own entry, which goes on
   record Own (p : List Entry) (v : SearchView) (a : Ask) (told : Told) (e : Entry) : Type 0 where
     fits : FitsRules f reducers capacity p e
@@ -117,6 +73,7 @@ module _ (f : Cnf) (reducers capacity limit : ℕ) (keep_all : Bool) where
         ≡ family_of (diary.held_then (state_of f reducers capacity p) e look) q
     tally : tally_then v.tally v.asked told ≡ next_tally v.tally e
     refuted : IsRefuted v told → adds_empty e ≡ true
+    learning : is_learn e ≡ true → (c : List Literal) × IsLearning v c × ((id : ℕ) × (told ≡ Id id))
 
   own : (p : List Entry) (v : SearchView) (a : Ask) (told : Told) (e : Entry)
       → IsAsking f reducers capacity limit keep_all p v a → Own p v a told e
@@ -140,12 +97,41 @@ module _ (f : Cnf) (reducers capacity limit : ℕ) (keep_all : Bool) where
     limited = asking.limited;
     keeping = asking.keeping;
     kept = λ is. one-more-forget p e (o.forgets is) ∙ asking.kept is;
+    within = more (is_learn e) (learn_count p) (learn_count (p ++ e ∷ [])) (one-more is_learn p e) asking.fewer;
+    fewer = one-left (is_learn e) refl;
     refuted = λ is. list_any-append adds_empty p (e ∷ []) ∙ last (list_any adds_empty p) (o.refuted is);
   }
     where
       last : (b : Bool) → adds_empty e ≡ true → (b || (adds_empty e || false)) ≡ true
       last true is = refl
       last false is = or-none (adds_empty e) ∙ is
+
+      more : (b : Bool) (n k : ℕ) → k ≡ (if b then n + 1 else n) → n < limit → k ≤ limit
+      more true n k is fewer = omega arith
+      more false n k is fewer = omega arith
+
+      tally-is : (tally_then v.tally v.asked told).learns ≡ learn_count (p ++ e ∷ [])
+      tally-is = ap (λ (t : Tally). t.learns)
+          (o.tally ∙ ap (λ t. next_tally t e) asking.followed.tally ∙ sym (tally-push p e))
+          ∙ learns-are (p ++ e ∷ [])
+
+      -- behind a learnt clause no more may come only where this ends the search
+      one-left : (b : Bool) → is_learn e ≡ b → ¬ IsSpent v told → ¬ IsRefuted v told
+          → learn_count (p ++ e ∷ []) < limit
+      one-left true is unspent unrefuted =
+          let l = o.learning is in
+          lt_of_le-ne
+          (more (is_learn e) (learn_count p) (learn_count (p ++ e ∷ [])) (one-more is_learn p e) asking.fewer)
+          (λ full. unspent (record {
+            clause = l.0;
+            learning = l.1;
+            some = λ none. unrefuted (inr (subst (IsLearning v) none l.1, l.2));
+            id = l.2.0;
+            told_id = l.2.1;
+            full = tally-is ∙ full ∙ sym asking.limited;
+          }))
+      one-left false is unspent unrefuted = subst (λ n. n < limit)
+          (sym (one-more is_learn p e ∙ ap (λ b. if b then learn_count p + 1 else learn_count p) is)) asking.fewer
 
   learnt-empty : (v : SearchView) (c : List Literal) (lbd : ℕ) (hints : List ℕ) (offered : Bool) (id : ℕ)
       → v.asked ≡ Learning c lbd → IsRefuted v (Id id) → adds_empty (entry.Learn c hints lbd offered) ≡ true
@@ -171,6 +157,7 @@ module _ (f : Cnf) (reducers capacity limit : ℕ) (keep_all : Bool) where
         ∙ sym (held-learnt (state_of f reducers capacity p) c hints lbd offered look q);
     tally = ap (λ x. tally_then v.tally x (Id id)) asked;
     refuted = learnt-empty v c lbd hints offered id asked;
+    learning = λ _. (c, (lbd, asked), (id, refl));
   }
 
   own-unit : (p : List Entry) (v : SearchView) (l : Literal) (hints : List ℕ) (id : ℕ)
@@ -189,6 +176,7 @@ module _ (f : Cnf) (reducers capacity limit : ℕ) (keep_all : Bool) where
         ∙ sym (held-derived (state_of f reducers capacity p) l hints look q);
     tally = ap (λ x. tally_then v.tally x (Id id)) asked;
     refuted = no-empty;
+    learning = λ is. absurd (cc is);
   }
     where
       no-empty : IsRefuted v (Id id) → adds_empty (entry.Unit 0 l hints) ≡ true
@@ -217,6 +205,7 @@ module _ (f : Cnf) (reducers capacity limit : ℕ) (keep_all : Bool) where
         ∙ sym (held-imported (state_of f reducers capacity p) old new c r.later look q r.first r.clause);
     tally = refl;
     refuted = no-empty;
+    learning = λ is. absurd (cc is);
   }
     where
       no-empty : IsRefuted v (Imported old new c) → adds_empty entry.Import ≡ true
@@ -234,6 +223,7 @@ module _ (f : Cnf) (reducers capacity limit : ℕ) (keep_all : Bool) where
     held = λ look q same. same q;
     tally = refl;
     refuted = no-empty;
+    learning = λ is. absurd (cc is);
   }
     where
       no-empty : IsRefuted v Drained → adds_empty entry.Drained ≡ true
@@ -255,6 +245,7 @@ module _ (f : Cnf) (reducers capacity limit : ℕ) (keep_all : Bool) where
         ∙ sym (held-forgotten (state_of f reducers capacity p) ids look q);
     tally = refl;
     refuted = no-empty;
+    learning = λ is. absurd (cc is);
   }
     where
       no-empty : IsRefuted v Forgotten → adds_empty (entry.Forget 0 ids) ≡ true
@@ -278,6 +269,8 @@ module _ (f : Cnf) (reducers capacity limit : ℕ) (keep_all : Bool) where
     limited = asking.limited;
     keeping = asking.keeping;
     kept = asking.kept;
+    within = omega (arith, asking.fewer);
+    fewer = λ _ _. asking.fewer;
     refuted = λ _. closed-by-empty p ended asking.unclosed;
   }
 
@@ -308,7 +301,9 @@ module _ (f : Cnf) (reducers capacity limit : ℕ) (keep_all : Bool) where
           → IsDriven f reducers capacity limit keep_all after v told
       step a told driven turn offers answered =
           let goes = turn.goes_on (told-is-open d after a told answered) in
-          by a told (turned d old was a v driven turn.asked goes) goes.fresh goes.in_time offers answered
+          by a told
+          (turned f reducers capacity limit keep_all d old was a v driven turn (told-is-open d after a told answered))
+          goes.fresh goes.in_time offers answered
         where
           by : (a : Ask) (told : Told) → IsAsking f reducers capacity limit keep_all d v a
               → Rattle.gr_search.specs.Turns.AsksFresh v a → AsksInTime v a → IsOfferedBy post a
@@ -316,7 +311,8 @@ module _ (f : Cnf) (reducers capacity limit : ℕ) (keep_all : Bool) where
           by a Start asking fresh in_time offers answered = absurd answered
           by (ask.Learn c hints lbd offered) (Id id) asking fresh in_time offers answered =
               let at : IsAsking f reducers capacity limit keep_all answered.1.place v (ask.Learn c hints lbd offered) =
-              reached d answered.1.place v (ask.Learn c hints lbd offered) asking answered.1.reached in
+              reached f reducers capacity limit keep_all d answered.1.place v (ask.Learn c hints lbd offered) asking
+              answered.1.reached in
               let new : IsNewId v id = subst (IsNewId v) (sym answered.2)
               (next-is-new f reducers capacity answered.1.place v at.legal at.followed) in
               subst (λ z. IsDriven f reducers capacity limit keep_all z v (Id id)) answered.1.splits
@@ -328,7 +324,8 @@ module _ (f : Cnf) (reducers capacity limit : ℕ) (keep_all : Bool) where
               (subst (IsLegal f reducers capacity) (sym answered.1.splits) answered.1.legal))
           by (ask.Unit l hints) (Id id) asking fresh in_time offers answered =
               let at : IsAsking f reducers capacity limit keep_all answered.1.place v (ask.Unit l hints) =
-              reached d answered.1.place v (ask.Unit l hints) asking answered.1.reached in
+              reached f reducers capacity limit keep_all d answered.1.place v (ask.Unit l hints) asking
+              answered.1.reached in
               let new : IsNewId v id = subst (IsNewId v) (sym answered.2)
               (next-is-new f reducers capacity answered.1.place v at.legal at.followed) in
               subst (λ z. IsDriven f reducers capacity limit keep_all z v (Id id)) answered.1.splits
@@ -345,7 +342,8 @@ module _ (f : Cnf) (reducers capacity limit : ℕ) (keep_all : Bool) where
               let import : IsAsking f reducers capacity limit keep_all d v ask.Import =
               subst (IsAsking f reducers capacity limit keep_all d v) answered.0 asking in
               let at : IsAsking f reducers capacity limit keep_all answered.1.place v ask.Import =
-              reached d answered.1.place v ask.Import import answered.1.reached in
+              reached f reducers capacity limit keep_all d answered.1.place v ask.Import import
+              answered.1.reached in
               subst (λ z. IsDriven f reducers capacity limit keep_all z v (Imported stands new c)) answered.1.splits
               (own answered.1.place v ask.Import (Imported stands new c) entry.Import at
               (own-import answered.1.place v stands new c at answered.2)
@@ -354,13 +352,15 @@ module _ (f : Cnf) (reducers capacity limit : ℕ) (keep_all : Bool) where
               let import : IsAsking f reducers capacity limit keep_all d v ask.Import =
               subst (IsAsking f reducers capacity limit keep_all d v) answered.0 asking in
               let at : IsAsking f reducers capacity limit keep_all answered.1.place v ask.Import =
-              reached d answered.1.place v ask.Import import answered.1.reached in
+              reached f reducers capacity limit keep_all d answered.1.place v ask.Import import
+              answered.1.reached in
               subst (λ z. IsDriven f reducers capacity limit keep_all z v Drained) answered.1.splits
               (own answered.1.place v ask.Import Drained entry.Drained at (own-drained answered.1.place v at)
               (subst (IsLegal f reducers capacity) (sym answered.1.splits) answered.1.legal))
           by (ask.Forget ids) Forgotten asking fresh in_time offers answered =
               let at : IsAsking f reducers capacity limit keep_all answered.1.place v (ask.Forget ids) =
-              reached d answered.1.place v (ask.Forget ids) asking answered.1.reached in
+              reached f reducers capacity limit keep_all d answered.1.place v (ask.Forget ids) asking
+              answered.1.reached in
               subst (λ z. IsDriven f reducers capacity limit keep_all z v Forgotten) answered.1.splits
               (own answered.1.place v (ask.Forget ids) Forgotten (entry.Forget 0 ids) at
               (own-forget answered.1.place v ids at
@@ -374,7 +374,8 @@ module _ (f : Cnf) (reducers capacity limit : ℕ) (keep_all : Bool) where
           by ask.Import Forgotten asking fresh in_time offers answered = absurd (let no = answered.0 in cc)
           by (ask.Done found) Forgotten asking fresh in_time offers answered = absurd (let no = answered.0 in cc)
           by a Closed asking fresh in_time offers answered =
-              closed after v a (reached d after v a asking answered.1) answered.0 answered.2
+              closed after v a (reached f reducers capacity limit keep_all d after v a asking answered.1) answered.0
+              answered.2
 
   -- what is asked may be asked, wherever others came between
   pub may-ask : (d p : List Entry) (old : SearchView) (was : Told) (a : Ask) (v : SearchView)
@@ -386,7 +387,8 @@ module _ (f : Cnf) (reducers capacity limit : ℕ) (keep_all : Bool) where
           → IsEnabled f reducers capacity p (entry_of a)
       going a turn open' =
           let goes = turn.goes_on open' in
-          let at = reached d p v a (turned d old was a v driven turn.asked goes) r in
+          let asking = turned f reducers capacity limit keep_all d old was a v driven turn open' in
+          let at = reached f reducers capacity limit keep_all d p v a asking r in
           asked-is-enabled f reducers capacity p v at.legal at.followed a goes.lawful
 
       by : (a : Ask) → IsTurn old was a v → IsEnabled f reducers capacity p (entry_of a)

@@ -29,7 +29,7 @@ AllSeeMore before after =
 -- the search is over: its seat has seen a closed history, which keeps the rules, and what it found holds of that
 pub record HasSearched (o : SolveOptions) (seat : Handle) (searched : Searched) : Type 0 where
   pub sees : SeesMore seat searched.seat
-  pub ended : IsEndedAt o.keep_all searched.seat
+  pub ended : IsEndedAt o.conflicts o.keep_all searched.seat
   pub offered : All (IsOfferedUpTo o.offer) searched.seat.seen
   pub found : IfOk searched.found (IsRunFrom o.conflicts o.keep_all searched.seat)
 

@@ -30,7 +30,7 @@ pub record IsRan (f : Cnf) (o : SolveOptions) (ran : Ran) : Type 0 where
   pub tells : Tells f o.reducers o.capacity ran.diary
   -- a log may write each id of its lines
   pub ids : All HasIds (lines_of f o.reducers o.capacity ran.diary.entries)
-  pub ended : IsEnded f o.reducers o.capacity o.keep_all ran.diary.entries
+  pub ended : IsEnded f o.reducers o.capacity o.conflicts o.keep_all ran.diary.entries
   pub unsatisfiable : (ran.verdict ≡ Unsatisfiable) ↔ AddsEmptyClause ran.diary.entries
   pub satisfiable : ran.verdict ≡ Satisfiable → Satisfies f ran.model
   pub unknown : ran.verdict ≡ Unknown → learn_count ran.diary.entries ≡ o.conflicts

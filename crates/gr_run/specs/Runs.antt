@@ -12,11 +12,12 @@ use Rattle.gr_search.specs.declared.asks.Found.TheVariants.{Model, Refuted, Spen
 use Rattle.gr_run.specs.Driving.{KeepsRules}
 
 -- a history that the searching thread has not ended
-pub record IsUnderway (f : Cnf) (reducers capacity : ℕ) (keep_all : Bool) (d : List Entry) : Type 0 where
+pub record IsUnderway (f : Cnf) (reducers capacity limit : ℕ) (keep_all : Bool) (d : List Entry) : Type 0 where
   pub legal : IsLegal f reducers capacity d
   pub rules : KeepsRules f reducers capacity d
   pub unclosed : list_any is_close d ≡ false
   pub kept : keep_all ≡ true → forget_count d ≡ 0
+  pub within : learn_count d ≤ limit
 
 -- the assignment satisfies the formula
 pub record Satisfies (f : Cnf) (model : List Bool) : Type 0 where
@@ -26,22 +27,24 @@ pub record Satisfies (f : Cnf) (model : List Bool) : Type 0 where
 -- what a search found, and the history so far
 pub record IsFound (f : Cnf) (reducers capacity limit : ℕ) (keep_all : Bool) (d : List Entry) (found : Found) : Type 0
   where
-    pub underway : IsUnderway f reducers capacity keep_all d
+    pub underway : IsUnderway f reducers capacity limit keep_all d
     pub refuted : found ≡ Refuted → AddsEmptyClause d
     pub spent : found ≡ Spent → learn_count d ≡ limit
     pub model : (m : List Bool) → found ≡ Model m → Satisfies f m
 
 -- a history that is closed
-pub record IsEnded (f : Cnf) (reducers capacity : ℕ) (keep_all : Bool) (d : List Entry) : Type 0 where
+pub record IsEnded (f : Cnf) (reducers capacity limit : ℕ) (keep_all : Bool) (d : List Entry) : Type 0 where
   pub legal : IsLegal f reducers capacity d
   pub rules : KeepsRules f reducers capacity d
   pub closed : IsClosed d
   pub kept : keep_all ≡ true → forget_count d ≡ 0
+  -- no more clauses were learnt than may be
+  pub within : learn_count d ≤ limit
 
 -- a whole run: its history, and what it found
 pub record IsRun (f : Cnf) (reducers capacity limit : ℕ) (keep_all : Bool) (d : List Entry) (found : Found) : Type 0
   where
-    pub ended : IsEnded f reducers capacity keep_all d
+    pub ended : IsEnded f reducers capacity limit keep_all d
     -- exactly where the history adds the empty clause
     pub refuted : (found ≡ Refuted) ↔ AddsEmptyClause d
     pub spent : found ≡ Spent → learn_count d ≡ limit

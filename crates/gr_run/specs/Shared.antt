@@ -29,9 +29,9 @@ abbrev pub HasWaited : Handle → Handle → Type 0
 HasWaited old new = SeesMore old new × IsReached old.formula old.reducers old.capacity old.seen new.seen
 
 -- a search that has not ended the history: its seat has seen more, which keeps the rules
-pub record IsStanding (offer : ℕ) (keep_all : Bool) (old new : Handle) : Type 0 where
+pub record IsStanding (offer limit : ℕ) (keep_all : Bool) (old new : Handle) : Type 0 where
   pub sees : SeesMore old new
-  pub underway : IsUnderway new.formula new.reducers new.capacity keep_all new.seen
+  pub underway : IsUnderway new.formula new.reducers new.capacity limit keep_all new.seen
   pub offered : All (IsOfferedUpTo offer) new.seen
 
 -- what a search found, by what its seat has seen
@@ -39,8 +39,8 @@ abbrev pub IsFoundFrom : ℕ → Bool → Handle → Found → Type 0
 IsFoundFrom limit keep_all s found = IsFound s.formula s.reducers s.capacity limit keep_all s.seen found
 
 -- the history that a seat has seen is closed
-abbrev pub IsEndedAt : Bool → Handle → Type 0
-IsEndedAt keep_all s = IsEnded s.formula s.reducers s.capacity keep_all s.seen
+abbrev pub IsEndedAt : ℕ → Bool → Handle → Type 0
+IsEndedAt limit keep_all s = IsEnded s.formula s.reducers s.capacity limit keep_all s.seen
 
 -- a whole run, by what its seat has seen
 abbrev pub IsRunFrom : ℕ → Bool → Handle → Found → Type 0

@@ -49,6 +49,7 @@ fn drive<F: Fn(u32, u32) -> bool + Drop>(
     requires low { OffersLow (F.post search.old.filter.f) }
     requires bounded { AnswersUpTo offer (F.post search.old.filter.f) }
     requires begun { IsBegun bench.old.formula search.old.state.limit search.old.state.keep_all search.old.state }
+    requires some { 1 ≤ search.old.state.limit }
     requires alone { bench.old.reducers ≡ 0 }
     requires empty { bench.old.diary.entries ≡ [] }
     ensures same { IsSameExchange bench.old bench.new }

@@ -21,4 +21,6 @@ mod searching_tests;
 #[cfg(test)]
 mod shared_tests;
 #[cfg(test)]
+mod small_tests;
+#[cfg(test)]
 mod tests;

@@ -1,5 +1,5 @@
 // The search over a shared exchange, from the searching thread's seat.
-ghost use Rattle.std.specs.Prelude.{◌≡◌, [], All, IfOk, OnErr};
+ghost use Rattle.std.specs.Prelude.{◌≡◌, ◌≤◌, [], All, IfOk, OnErr};
 ghost use Rattle.gr_diary.specs.Histories.{entries_of};
 ghost use Rattle.gr_seat.specs.Handles.{Enables};
 ghost use Rattle.gr_seat.specs.Turns.{SeesMore};
@@ -44,7 +44,7 @@ pub fn search_on<R: Wait, G: Gate>(
     requires in_range { AreInRange options.now }
     requires first { entries_of seat.seen 0 ≡ [] }
     ensures sees { SeesMore seat result.seat }
-    ensures ended { IsEndedAt options.now.keep_all result.seat }
+    ensures ended { IsEndedAt options.now.conflicts options.now.keep_all result.seat }
     ensures offered { All (IsOfferedUpTo options.now.offer) result.seat.seen }
     ensures found { IfOk result.found (IsRunFrom options.now.conflicts options.now.keep_all result.seat) }
     ensures room { IfOk result.found (HasRoom formula.now options.now.conflicts options.now.keep_all) }
@@ -80,7 +80,7 @@ fn search_from<R: Wait, G: Gate>(
     requires formula { seat.old.formula ≡ formula.now }
     requires in_range { AreInRange options.now }
     requires seat { HasNotSearched seat.old }
-    ensures standing { IsStanding options.now.offer options.now.keep_all seat.old seat.new }
+    ensures standing { IsStanding options.now.offer options.now.conflicts options.now.keep_all seat.old seat.new }
     ensures found { IfOk result (IsFoundFrom options.now.conflicts options.now.keep_all seat.new) }
 {
     let offer = options.offer;
@@ -103,8 +103,9 @@ fn drive_on<R: Wait, G: Gate, F: Fn(u32, u32) -> bool + Drop>(
     requires low { OffersLow (F.post search.old.filter.f) }
     requires bounded { AnswersUpTo offer (F.post search.old.filter.f) }
     requires begun { IsBegun seat.old.formula search.old.state.limit search.old.state.keep_all search.old.state }
+    requires some { 1 ≤ search.old.state.limit }
     requires seat { HasNotSearched seat.old }
-    ensures standing { IsStanding offer search.old.state.keep_all seat.old seat.new }
+    ensures standing { IsStanding offer search.old.state.limit search.old.state.keep_all seat.old seat.new }
     ensures found { IfOk result (IsFoundFrom search.old.state.limit search.old.state.keep_all seat.new) }
 {
     // It is a number of 32 bits.

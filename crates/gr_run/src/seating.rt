@@ -19,6 +19,7 @@ pub(crate) fn seat_all(
     requires reducers { (solver.old.reducers ≡ reducers) × (solver.old.splits ≡ 0) }
     ensures same { HasSameExchange solver.old solver.new }
     ensures seen { (solver.new.actor ≡ solver.old.actor) × (solver.new.seen ≡ solver.old.seen) }
+    ensures all { IfOk result (λ seats. vec_len seats ≡ reducers) }
     ensures out { IfOk result (λ seats. solver.new.out ≡ solver.old.out + vec_len seats) }
     ensures unused { IfOk result (λ seats. All (IsUnused solver.old.lock solver.old.formula) seats.items) }
     ensures beside { IfOk result (λ seats. All (HasSameExchange solver.old) seats.items) }

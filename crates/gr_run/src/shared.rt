@@ -58,6 +58,7 @@ fn run_beside<R: Threads + Wait + Sync, G: Gate>(
 ) -> (Result<Vec<ReducerSeat>, AllocError>, Searched)
     requires solver { IsUnusedBy bench.now formula.now 0 solver }
     requires options { AreInRange options.now }
+    requires all { vec_len seats ≡ options.now.reducers }
     requires unused { All (IsUnused bench.now formula.now) seats.items }
     ensures len { IfOk result.0 (λ back. vec_len back ≡ vec_len seats) }
     ensures each { IfOk result.0 (λ back. AllSeeMore seats.items back.items) }

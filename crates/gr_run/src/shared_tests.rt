@@ -1,10 +1,13 @@
 // Runs with reducers, on formulas whose answers are known.
 
 use crate::{SolveOptions, Verdict, solve_shared};
+use gr_diary::{Diary, Entry};
 use gr_gen::{odd_ring, pigeons};
-use gr_io::Open;
-use gr_logic::{Clause, Formula, Lit};
+use gr_io::{Gate, Open, Point};
+use gr_logic::{Clause, Formula, Lit, OutOfMemory};
+use std::sync::atomic::{AtomicU64, Ordering};
 use std::test::Fail;
+use std::thread::yield_now;
 
 /// The options that the program has where none are given.
 const DEFAULTS: SolveOptions = SolveOptions {
@@ -48,6 +51,63 @@ fn refutes_pigeons_beside_two_reducers(rt: HostRuntime) -> Result<(), Fail> {
     };
     let ran = solve_shared(&rt, alloc, &pigeons(alloc, 5)?, &two, &Open)?;
     assert_eq!(rt; ran.verdict, Verdict::Unsatisfiable);
+    Ok(())
+}
+
+/// Holds the reducer at its first clause until forty are learnt, and the search at its fortieth until twenty-five are
+/// taken: before the first restart the reducer has then given twenty-four back.
+#[derive(Drop)]
+struct Meeting {
+    learnt: AtomicU64,
+    taken: AtomicU64,
+}
+
+fn wait_for(word: &AtomicU64, least: u64) {
+    for _ in 0..10_000_000u64 {
+        if word.load(Ordering::SeqCst) >= least {
+            return;
+        }
+        yield_now();
+    }
+}
+
+impl Gate for Meeting {
+    fn pass(&self, _actor: u32, point: Point) {
+        match point {
+            Point::Learnt => {
+                if self.learnt.fetch_add(1, Ordering::SeqCst) == 39 {
+                    wait_for(&self.taken, 25);
+                }
+            }
+            Point::Taken => {
+                if self.taken.fetch_add(1, Ordering::SeqCst) == 0 {
+                    wait_for(&self.learnt, 40);
+                }
+            }
+        }
+    }
+}
+
+/// Whether a result was taken over.
+fn has_import(diary: &Diary) -> Result<bool, OutOfMemory> {
+    for k in 0..diary.len() {
+        if let Entry::Import = diary.get(k)? {
+            return Ok(true);
+        }
+    }
+    Ok(false)
+}
+
+#[test]
+fn takes_over_what_a_reducer_gives_back(rt: HostRuntime) -> Result<(), Fail> {
+    let alloc = rt.alloc();
+    let gate = Meeting {
+        learnt: AtomicU64::new(0),
+        taken: AtomicU64::new(0),
+    };
+    let ran = solve_shared(&rt, alloc, &pigeons(alloc, 7)?, &DEFAULTS, &gate)?;
+    assert_eq!(rt; ran.verdict, Verdict::Unsatisfiable);
+    assert!(rt; has_import(&ran.diary)?);
     Ok(())
 }
 

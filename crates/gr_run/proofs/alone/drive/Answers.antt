@@ -24,7 +24,7 @@ loop-ask-init g c =
       filter = refl;
       alone = refl;
       driven = driven-from-nothing x.formula x.reducers x.capacity v.limit v.keep_all v c.requires.begun
-          x.diary.entries c.requires.empty;
+          c.requires.some x.diary.entries c.requires.empty;
       filtered = subst (AreFilteredBy (goal.F-post g c.args.search.now.filter.f)) (sym c.requires.empty)
           (All-nil (IsFilteredBy (goal.F-post g c.args.search.now.filter.f)));
     }

@@ -21,7 +21,7 @@ loop-round-init g c =
     let legal = c.requires.seat.legal in record {
       sees = sees-itself x legal;
       filter = refl;
-      driven = driven-unused v.limit v.keep_all v x c.requires.begun unused legal;
+      driven = driven-unused v.limit v.keep_all v x c.requires.begun c.requires.some unused legal;
       filtered = others-filtered (goal.F-post g c.args.search.now.filter.f) x.seen (none-own x.seen unused);
     }
 
@@ -40,7 +40,7 @@ returns-in_err-next-clause-standing g c =
     let y = c.loop-round.seat in
     let v = c.args.search.now.state in
     let i = c.loop-round.invariant in
-    stands-waiting c.args.offer v.keep_all x y c.answer_on.new.seat
+    stands-waiting c.args.offer v.limit v.keep_all x y c.answer_on.new.seat
     (stands c.args.offer v.limit v.keep_all (goal.F-post g c.args.search.now.filter.f) x y c.loop-round.search.state
     c.loop-round.told c.requires.bounded i.sees i.driven i.filtered)
     c.in_err-next.ensures.err
@@ -90,7 +90,7 @@ returns-in-Found-clause-standing g c =
     let v = c.args.search.now.state in
     let i = c.loop-round.invariant in
     let answered = subst (λ answer. IsSeatAnswer y c.in_ok-ask.ask answer z) c.in-Found.is c.in_ok-next.ensures.ok in
-    subst (IsStanding c.args.offer v.keep_all x) (sym answered.0)
+    subst (IsStanding c.args.offer v.limit v.keep_all x) (sym answered.0)
     (stands c.args.offer v.limit v.keep_all (goal.F-post g c.args.search.now.filter.f) x y c.loop-round.search.state
     c.loop-round.told c.requires.bounded i.sees i.driven i.filtered)
 

@@ -14,7 +14,7 @@ returns-in-Ok-clause-ended g c =
     let o = c.args.options.now in
     let standing = c.search_from-found.ensures.standing in
     let mine = standing.sees.same.actor ∙ sym c.actor-actor.ensures.actor ∙ c.actor-actor.ensures.first in
-    ended o.offer o.keep_all c.args.seat c.search_from-found.new.seat c.close-closing.new.seat
+    ended o.offer o.conflicts o.keep_all c.args.seat c.search_from-found.new.seat c.close-closing.new.seat
     mine standing c.close-closing.ensures.turn.sees c.close-closing.result c.close-closing.ensures.done
     c.close-closing.ensures.already c.close-closing.ensures.closed
 
@@ -23,7 +23,7 @@ returns-in-Ok-clause-offered g c =
     let o = c.args.options.now in
     let standing = c.search_from-found.ensures.standing in
     let mine = standing.sees.same.actor ∙ sym c.actor-actor.ensures.actor ∙ c.actor-actor.ensures.first in
-    offered o.offer o.keep_all c.args.seat c.search_from-found.new.seat c.close-closing.new.seat
+    offered o.offer o.conflicts o.keep_all c.args.seat c.search_from-found.new.seat c.close-closing.new.seat
     mine standing c.close-closing.ensures.turn.sees c.close-closing.result c.close-closing.ensures.done
     c.close-closing.ensures.already c.close-closing.ensures.closed
 
@@ -37,7 +37,7 @@ returns-in-Err-clause-ended g c =
     let o = c.args.options.now in
     let standing = c.search_from-found.ensures.standing in
     let mine = standing.sees.same.actor ∙ sym c.actor-actor.ensures.actor ∙ c.actor-actor.ensures.first in
-    ended o.offer o.keep_all c.args.seat c.search_from-found.new.seat c.close-closing.new.seat
+    ended o.offer o.conflicts o.keep_all c.args.seat c.search_from-found.new.seat c.close-closing.new.seat
     mine standing c.close-closing.ensures.turn.sees c.close-closing.result c.close-closing.ensures.done
     c.close-closing.ensures.already c.close-closing.ensures.closed
 
@@ -46,7 +46,7 @@ returns-in-Err-clause-offered g c =
     let o = c.args.options.now in
     let standing = c.search_from-found.ensures.standing in
     let mine = standing.sees.same.actor ∙ sym c.actor-actor.ensures.actor ∙ c.actor-actor.ensures.first in
-    offered o.offer o.keep_all c.args.seat c.search_from-found.new.seat c.close-closing.new.seat
+    offered o.offer o.conflicts o.keep_all c.args.seat c.search_from-found.new.seat c.close-closing.new.seat
     mine standing c.close-closing.ensures.turn.sees c.close-closing.result c.close-closing.ensures.done
     c.close-closing.ensures.already c.close-closing.ensures.closed
 
@@ -56,9 +56,9 @@ returns-in-Ok-clause-found g c =
     let standing = c.search_from-found.ensures.standing in
     let mine = standing.sees.same.actor ∙ sym c.actor-actor.ensures.actor ∙ c.actor-actor.ensures.first in
     subst (IsRunFrom o.conflicts o.keep_all c.close-closing.new.seat) (sym c.settle.ensures)
-    (run o.offer o.keep_all c.args.seat c.search_from-found.new.seat c.close-closing.new.seat
+    (run o.offer o.conflicts o.keep_all c.args.seat c.search_from-found.new.seat c.close-closing.new.seat
     mine standing c.close-closing.ensures.turn.sees c.close-closing.result c.close-closing.ensures.done
-    c.close-closing.ensures.already c.close-closing.ensures.closed o.conflicts c.in-Ok.found c.in-Ok.ensures.found)
+    c.close-closing.ensures.already c.close-closing.ensures.closed c.in-Ok.found c.in-Ok.ensures.found)
 
 pub returns-in-Ok-clause-room : goal.returns-in-Ok-clause-room
 returns-in-Ok-clause-room g c =
@@ -69,6 +69,6 @@ returns-in-Ok-clause-room g c =
     subst (λ f. HasRoom f o.conflicts o.keep_all c.settle.result)
     (c.close-closing.ensures.turn.sees.same.formula ∙ standing.sees.same.formula ∙ c.requires.formula)
     (subst (HasRoom z.formula o.conflicts o.keep_all) (sym c.settle.ensures)
-    (room o.offer o.keep_all c.args.seat c.search_from-found.new.seat z
+    (room o.offer o.conflicts o.keep_all c.args.seat c.search_from-found.new.seat z
     mine standing c.close-closing.ensures.turn.sees c.close-closing.result c.close-closing.ensures.done
-    c.close-closing.ensures.already c.close-closing.ensures.closed o.conflicts c.in-Ok.found c.in-Ok.ensures.found))
+    c.close-closing.ensures.already c.close-closing.ensures.closed c.in-Ok.found c.in-Ok.ensures.found))
