@@ -1,6 +1,6 @@
 -- answers that were cut off
 use Rattle.std.proofs.Common.{◌≡◌, sym, subst, refl, List, inl, inr}
-use Rattle.std.specs.Prelude.{Result, Ok, Err}
+use Rattle.std.specs.Prelude.{Result, Ok, Err, OnOk}
 use Rattle.gr_io.specs.declared.sinks.SinkError.{SinkError}
 use Rattle.gr_io.specs.declared.sinks.SinkError.TheVariants.{Fault, OutOfMemory}
 use Rattle.gr_logic.specs.Formulas.{Cnf}
@@ -10,7 +10,7 @@ use Rattle.gr_run.specs.declared.options.SolveOptions.{SolveOptions}
 use Rattle.gr_top.specs.Histories.{IsRefutation}
 use Rattle.gr_top.specs.Sinks.{Sinks, OutRose, ProofRose, CutRefutation, LogCut, VerdictCut, CutOutput, InVerdict, CutLog}
 use Rattle.gr_top.specs.Solving.{AnswersBy, Answers, IsBare, SparesProof}
-use Rattle.gr_top.specs.Statuses.{cut_status, end_status}
+use Rattle.gr_top.specs.Statuses.{IsWellWritten, cut_status, end_status}
 use Rattle.gr_top.specs.declared.statuses.Status.{Status}
 use Rattle.gr_top.specs.declared.statuses.Status.TheVariants as statuses
 use Rattle.gr_top.specs.declared.reports.Report.{Report}
@@ -42,6 +42,13 @@ cut-refutation-answers failed f o lines old new r status bare refutes (LogCut pa
     (record { lines = lines; refutes = refutes; proof = part; out = same }) why
 cut-refutation-answers failed f o lines old new r status bare refutes (VerdictCut whole part why) =
     cut-output-answers failed f o old new r status bare (InVerdict lines refutes whole part) why
+
+-- what holds where a text was written holds beside a status that tells of no failed write
+pub where-written : {P : Type 0} (done : Result (Unit {0}) SinkError) (due status : Status)
+    → status ≡ end_status done due → IsWellWritten status → OnOk done P → P
+where-written (Ok ok) due status is well holds = holds
+where-written (Err Fault) due status is well holds = absurd (subst IsWellWritten is well)
+where-written (Err OutOfMemory) due status is well holds = absurd (subst IsWellWritten is well)
 
 -- a call that was cut off may have touched the proof log
 pub cut-spares-nothing : (failed : SinkError) (status : Status) → status ≡ cut_status failed

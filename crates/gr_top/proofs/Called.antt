@@ -11,7 +11,8 @@ use Rattle.gr_dimacs.specs.declared.faults.ReadError.TheVariants as read_errors
 use Rattle.gr_run.specs.declared.options.SolveOptions.{SolveOptions}
 use Rattle.gr_top.specs.Sinks.{OutRose, IsUntouched}
 use Rattle.gr_top.specs.Texts.{fault_text, usage_text}
-use Rattle.gr_top.specs.Solving.{Streams, taking, ReadRose, IsReadFrom, IsFaultIn, AnswersBy, Answers, SolvesBy, Solves, IsBare}
+use Rattle.gr_top.specs.Streams.{Streams, taking, ReadRose, IsReadFrom, IsFaultIn}
+use Rattle.gr_top.specs.Solving.{AnswersBy, Answers, SolvesBy, Solves, IsBare}
 use Rattle.gr_top.specs.Refusing.{RefusesBy, Refuses}
 use Rattle.gr_top.specs.Statuses.{end_status}
 use Rattle.gr_top.specs.declared.statuses.Status.{Status}
@@ -44,7 +45,8 @@ with-status : (status : Status) (o : SolveOptions) (old new : Streams) (r : Repo
 with-status status o old new r is says = solves o old new r (subst (λ s. SolvesBy s o old new r) (sym is) says)
 
 -- the line on the text's fault was written, or was cut off
-pub fault-solves : (done : Result (Unit {0}) SinkError) (o : SolveOptions) (old new : Streams) (g : GrammarFault) (r : Report)
+pub fault-solves : (done : Result (Unit {0}) SinkError) (o : SolveOptions) (old new : Streams)
+    → (g : GrammarFault) (r : Report)
     → IsFaultIn (taking old new) g
     → OnOk done (Gains (fault_text g) old.sinks.out new.sinks.out)
     → OnErr done (GainsPart (fault_text g) old.sinks.out new.sinks.out)

@@ -14,7 +14,8 @@ use Rattle.gr_lrat.specs.Logs.{LogOutcome}
 use Rattle.gr_top.specs.CheckTexts.{check_text}
 use Rattle.gr_top.specs.CheckedLogs.{outcome_of, Finds, LogGives}
 use Rattle.gr_top.specs.Checking.{Sources, Output, formula_taking, IsFormulaRead, IsUnread, IsDue, Judges, ChecksBy, Checks, NothingFailed, IsAnswer}
-use Rattle.gr_top.specs.Solving.{IsBare, IsRefusal}
+use Rattle.gr_top.specs.Completeness.{IsRefusal}
+use Rattle.gr_top.specs.Solving.{IsBare}
 use Rattle.gr_top.specs.Statuses.{end_status, stop_status}
 use Rattle.gr_top.specs.declared.statuses.Status.{Status}
 use Rattle.gr_top.specs.declared.statuses.Status.TheVariants.{Satisfiable, Unsatisfiable, Unknown, Verified, NotVerified, Usage, Grammar, LogGrammar, ReadFault, SinkFault, OutOfMemory}

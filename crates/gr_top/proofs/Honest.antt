@@ -7,7 +7,8 @@ use Rattle.gr_logic.specs.Formulas.{Cnf}
 use Rattle.gr_run.specs.Runs.{Satisfies}
 use Rattle.gr_top.specs.Texts.{satisfiable_line, unsatisfiable_line, unknown_line, satisfiable_text}
 use Rattle.gr_top.specs.Sinks.{Sinks}
-use Rattle.gr_top.specs.Solving.{Taking, Shows, NoFalseVerdict, IsReadFrom}
+use Rattle.gr_top.specs.Streams.{Taking, IsReadFrom}
+use Rattle.gr_top.specs.Solving.{Shows, NoFalseVerdict}
 
 -- what is added behind the same text is the same
 same-behind : (xs ys zs : List ℕ) → xs ++ ys ≡ xs ++ zs → ys ≡ zs
@@ -98,7 +99,8 @@ model-honest told f old new model read is part = record {
 }
 
 -- where it was due that the limit was spent, neither verdict is shown
-pub unknown-honest : (told : Taking) (old new : Sinks) → GainsPart unknown_line old.out new.out → NoFalseVerdict told old new
+pub unknown-honest : (told : Taking) (old new : Sinks) → GainsPart unknown_line old.out new.out
+    → NoFalseVerdict told old new
 unknown-honest told old new part = record {
   satisfiable = λ shows.
       let shown = shown-part satisfiable_line unknown_line old.out new.out shows part in

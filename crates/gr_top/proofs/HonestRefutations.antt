@@ -8,7 +8,8 @@ use Rattle.gr_run.specs.declared.options.SolveOptions.{SolveOptions}
 use Rattle.gr_top.specs.Histories.{IsRefutation}
 use Rattle.gr_top.specs.Texts.{satisfiable_line, unsatisfiable_line}
 use Rattle.gr_top.specs.Sinks.{Sinks, CutOutput, InModel, InVerdict, InUnknown, CutAnswer}
-use Rattle.gr_top.specs.Solving.{Taking, NoFalseVerdict, IsReadFrom}
+use Rattle.gr_top.specs.Streams.{Taking, IsReadFrom}
+use Rattle.gr_top.specs.Solving.{NoFalseVerdict}
 use Rattle.gr_top.proofs.Honest.{shown-part, differ-at, same-honest, model-honest, unknown-honest}
 
 -- where the verdict on a whole log that refutes the formula was due, it is that one

@@ -1,36 +1,15 @@
 -- texts that are printed and handed on
-use Rattle.std.proofs.Common.{◌≡◌, ◌++◌, [], subst, ℕ, List}
+use Rattle.std.proofs.Common.{◌++◌, subst, ℕ, List}
 use Rattle.std.specs.Prelude.{Option, Result, Ok, Err, OnOk, OnErr}
 use Rattle.gr_io.specs.Pieces.{Gains, GainsPart}
 use Rattle.gr_text.specs.Printing.{Prints}
-use Rattle.gr_text.proofs.Printing.{prints_flushed, prints_part, prints_then, prints_then_part}
+use Rattle.gr_text.proofs.Printing.{prints_then, prints_then_part}
 use Rattle.gr_lrat.proofs.Printed.{HasFront}
 
 -- what holds at all holds where the answer is an error
 pub on-err : {A E : Type 0} {P : Type 0} (r : Result A E) → P → OnErr r P
 on-err (Ok a) holds = tt
 on-err (Err e) holds = holds
-
--- a text was printed from the start, and handed on
-pub flushed-ok : {A E : Type 0} (r : Result A E) (text : List ℕ) (u v w : Option (List ℕ)) (h i : List ℕ)
-    → h ≡ [] → Prints text u h v i → OnOk r (Gains i v w) → OnOk r (Gains text u w)
-flushed-ok (Ok a) text u v w h i none printed flushed =
-    let P : List ℕ → Type 0 = λ held. Gains (held ++ text) u w in
-    subst P none (prints_flushed text u v w h i printed flushed)
-flushed-ok (Err e) text u v w h i none printed flushed = tt
-
--- a text was printed from the start, and a part of it handed on
-pub flushed-err : {A E : Type 0} (r : Result A E) (text : List ℕ) (u v w : Option (List ℕ)) (h i : List ℕ)
-    → h ≡ [] → Prints text u h v i → OnErr r (GainsPart i v w) → OnErr r (GainsPart text u w)
-flushed-err (Ok a) text u v w h i none printed flushed = tt
-flushed-err (Err e) text u v w h i none printed flushed =
-    let P : List ℕ → Type 0 = λ held. GainsPart (held ++ text) u w in
-    subst P none (prints_part text u v w h i printed flushed)
-
--- of a text from the start a part was handed on
-pub part-only : (text : List ℕ) (u w : Option (List ℕ)) (h : List ℕ)
-    → h ≡ [] → GainsPart (h ++ text) u w → GainsPart text u w
-part-only text u w h none part = let P : List ℕ → Type 0 = λ held. GainsPart (held ++ text) u w in subst P none part
 
 -- behind the front of a text the rest of it was printed
 pub front-ended : {A E : Type 0} (r : Result A E) (whole last : List ℕ) (u v w : Option (List ℕ)) (h i j : List ℕ)

@@ -10,7 +10,9 @@ use Rattle.gr_dimacs.specs.declared.faults.ReadError.TheVariants as errors
 use Rattle.gr_run.specs.declared.options.SolveOptions.{SolveOptions}
 use Rattle.gr_top.specs.Histories.{log_of}
 use Rattle.gr_top.specs.Sinks.{Sinks}
-use Rattle.gr_top.specs.Solving.{Streams, Taking, taking, IsReadFrom, IsFaultIn, AnswerFailed, CutFault, SolvesBy, Solves, NoFalseVerdict, NothingRose, IsDecision, IsRefusal}
+use Rattle.gr_top.specs.Streams.{Streams, Taking, taking, IsReadFrom, IsFaultIn}
+use Rattle.gr_top.specs.Completeness.{NothingRose, IsDecision, IsRefusal}
+use Rattle.gr_top.specs.Solving.{AnswerFailed, CutFault, SolvesBy, Solves, NoFalseVerdict}
 use Rattle.gr_top.specs.declared.statuses.Status.{Status}
 use Rattle.gr_top.specs.declared.statuses.Status.TheVariants.{Satisfiable, Unsatisfiable, Unknown, Verified, NotVerified, Usage, Grammar, LogGrammar, ReadFault, SinkFault, OutOfMemory}
 use Rattle.gr_top.specs.declared.reports.Report.{Report}

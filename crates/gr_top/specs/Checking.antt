@@ -10,7 +10,9 @@ use Rattle.gr_lrat.specs.Logs.{LogOutcome}
 use Rattle.gr_lrat.specs.Logs as outcomes
 use Rattle.gr_top.specs.CheckTexts.{check_text}
 use Rattle.gr_top.specs.CheckedLogs.{Shown, shown, SaysOfLog, IsLogUnread, IsWithinLimit, outcome_of, unproved, misspelt}
-use Rattle.gr_top.specs.Solving.{Taking, IsReadFrom, IsFaultIn, IsBare, IsRefusal}
+use Rattle.gr_top.specs.Streams.{Taking, IsReadFrom, IsFaultIn}
+use Rattle.gr_top.specs.Completeness.{IsRefusal}
+use Rattle.gr_top.specs.Solving.{IsBare}
 use Rattle.gr_top.specs.declared.statuses.Status.{Status}
 use Rattle.gr_top.specs.declared.statuses.Status.TheVariants.{Satisfiable, Unsatisfiable, Unknown, Verified, NotVerified, Usage, Grammar, LogGrammar, ReadFault, SinkFault, OutOfMemory}
 use Rattle.gr_top.specs.declared.statuses.Stop.{Stop}

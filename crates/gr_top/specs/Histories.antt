@@ -31,8 +31,9 @@ ReturnsParts f o diary =
 pub record IsHistory (f : Cnf) (o : SolveOptions) (diary : Journal) : Type 0 where
   -- each entry is legal, and at each the ids left that nobody holds
   pub tells : exchange.Tells f o.reducers o.capacity diary
-  -- it is closed; what was learnt was fresh, restarts took over all results, and forgetting was rare
-  pub ended : IsEnded f o.reducers o.capacity o.keep_all diary.entries
+  -- it is closed; what was learnt was fresh and no more than may be, restarts took over all results, and forgetting was
+  -- rare
+  pub ended : IsEnded f o.reducers o.capacity o.conflicts o.keep_all diary.entries
   -- learnt clauses were offered up to the LBD of the options
   pub offered : All (IsOfferedUpTo o.offer) diary.entries
   pub returned : ReturnsParts f o diary
@@ -41,6 +42,10 @@ pub record IsHistory (f : Cnf) (o : SolveOptions) (diary : Journal) : Type 0 whe
 pub record IsRefutation (f : Cnf) (log : List Line) : Type 0 where
   pub accepted : Accepts f log
   pub ids : All HasIds log
+
+-- a log refutes the formula
+abbrev pub HasRefutation : Cnf → Type 0
+HasRefutation f = (log : List Line) × IsRefutation f log
 
 -- as many clauses were learnt as may be, none of them empty. Where all were kept, that were fewer than 3^V, the number
 -- of clauses over V variables; else fewer than q times as many, where 2,000 * q are no fewer than 3^V

@@ -3,6 +3,8 @@ pub mod Statuses
 pub mod Texts
 pub mod Histories
 pub mod Sinks
+pub mod Streams
+pub mod Completeness
 pub mod Solving
 pub mod Reporting
 pub mod Refusing

@@ -2,7 +2,8 @@
 use Rattle.std.specs.Prelude.{◌≡◌}
 use Rattle.gr_top.specs.Sinks.{Sinks, OutRose, Tells, TellsPart}
 use Rattle.gr_top.specs.Texts.{usage_text}
-use Rattle.gr_top.specs.Solving.{Streams, IsBare}
+use Rattle.gr_top.specs.Streams.{Streams}
+use Rattle.gr_top.specs.Solving.{IsBare}
 use Rattle.gr_top.specs.declared.statuses.Status.{Status}
 use Rattle.gr_top.specs.declared.statuses.Status.TheVariants.{Satisfiable, Unsatisfiable, Unknown, Verified, NotVerified, Usage, Grammar, LogGrammar, ReadFault, SinkFault, OutOfMemory}
 use Rattle.gr_top.specs.declared.reports.Report.{Report}

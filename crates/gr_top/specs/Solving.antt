@@ -2,57 +2,22 @@
 use Rattle.std.specs.Prelude.{◌≡◌, ℕ, Bool, List, [], ◌++◌, Option, Some, Ok, Err, ◌⊎◌}
 use Rattle.gr_logic.specs.Formulas.{Cnf}
 use Rattle.gr_logic.specs.declared.lines.Line.{Line}
-use Rattle.gr_io.specs.Pieces.{Gains, Rose}
-use Rattle.gr_dimacs.specs.Faults.{fault_of}
-use Rattle.gr_dimacs.specs.Reads.{program_limits, IsFormulaOf, Reads}
+use Rattle.gr_io.specs.Pieces.{Gains}
+use Rattle.gr_dimacs.specs.Reads.{program_limits, Reads}
 use Rattle.gr_dimacs.specs.declared.faults.GrammarFault.{GrammarFault}
 use Rattle.gr_dimacs.specs.declared.faults.ReadError.TheVariants as errors
 use Rattle.gr_lrat.specs.Writing.{log_text}
 use Rattle.gr_diary.specs.Histories.{AddsEmptyClause}
 use Rattle.gr_run.specs.declared.options.SolveOptions.{SolveOptions}
 use Rattle.gr_run.specs.Runs.{Satisfies}
-use Rattle.gr_top.specs.Histories.{IsHistory, IsRefutation, IsSpent, log_of}
-use Rattle.gr_top.specs.Sinks.{Sinks, sinks, OutRose, ProofRose, IsUntouched, Tells, TellsPart, TellsRefutation, CutOutput, CutLog, CutAnswer}
+use Rattle.gr_top.specs.Completeness.{IsComplete}
+use Rattle.gr_top.specs.Histories.{HasRefutation, IsHistory, IsRefutation, IsSpent, log_of}
+use Rattle.gr_top.specs.Sinks.{Sinks, OutRose, ProofRose, IsUntouched, Tells, TellsPart, TellsRefutation, CutOutput, CutLog, CutAnswer}
+use Rattle.gr_top.specs.Streams.{Streams, Taking, taking, ReadRose, IsReadFrom, IsFaultIn}
 use Rattle.gr_top.specs.Texts.{satisfiable_line, unsatisfiable_line, unknown_line, satisfiable_text, fault_text}
 use Rattle.gr_top.specs.declared.statuses.Status.{Status}
 use Rattle.gr_top.specs.declared.statuses.Status.TheVariants.{Satisfiable, Unsatisfiable, Unknown, Verified, NotVerified, Usage, Grammar, LogGrammar, ReadFault, SinkFault, OutOfMemory}
 use Rattle.gr_top.specs.declared.reports.Report.{Report}
-
--- what the streams of a call show: the text that is left to read, where it is told, how often reading
--- failed, and what stands on the sinks
-pub record Streams : Type 0 where
-  pub text : Option (List ℕ)
-  pub read_faults : ℕ
-  pub sinks : Sinks
-
--- the streams that show this
-abbrev pub streams : Option (List ℕ) → ℕ → Option (List ℕ) → ℕ → Option (List ℕ) → ℕ → Streams
-streams text read_faults out out_faults proof proof_faults = record {
-  text = text;
-  read_faults = read_faults;
-  sinks = sinks out out_faults proof proof_faults;
-}
-
--- reading failed
-abbrev pub ReadRose : Streams → Streams → Type 0
-ReadRose old new = Rose old.read_faults new.read_faults
-
--- what a source had left to read, and what it has left now, each where it is told
-pub record Taking : Type 0 where
-  pub left : Option (List ℕ)
-  pub rest : Option (List ℕ)
-
--- what a call took
-abbrev pub taking : Streams → Streams → Taking
-taking old new = record { left = old.text; rest = new.text }
-
--- the text was read through, and spells the formula, with no fault and within the program's limits
-abbrev pub IsReadFrom : Taking → Cnf → Type 0
-IsReadFrom text f = Reads program_limits (Ok f) text.left text.rest
-
--- this is the text's first fault
-abbrev pub IsFaultIn : Taking → GrammarFault → Type 0
-IsFaultIn text g = Reads program_limits (Err (errors.Grammar g)) text.left text.rest
 
 -- the report has neither a model nor a history
 pub record IsBare (r : Report) : Type 0 where
@@ -156,47 +121,6 @@ pub record NoFalseVerdict (text : Taking) (old new : Sinks) : Type 0 where
       → (f : Cnf) × IsReadFrom text f × (lines : List Line) × IsRefutation f lines
       × Gains (log_text lines) old.proof new.proof
 
--- nothing failed in the call
-pub record NothingRose (old new : Streams) : Type 0 where
-  pub read : ReadRose old new → ⊥
-  pub out : OutRose old.sinks new.sinks → ⊥
-  pub proof : ProofRose old.sinks new.sinks → ⊥
-
--- the status is a verdict, or that the limit was spent, or want of memory
-abbrev pub IsDecision : Status → Type 0
-IsDecision Satisfiable = Unit {0}
-IsDecision Unsatisfiable = Unit {0}
-IsDecision Unknown = Unit {0}
-IsDecision OutOfMemory = Unit {0}
-IsDecision Usage = ⊥
-IsDecision Verified = ⊥
-IsDecision (NotVerified reason) = ⊥
-IsDecision (LogGrammar fault) = ⊥
-IsDecision (Grammar g) = ⊥
-IsDecision ReadFault = ⊥
-IsDecision SinkFault = ⊥
-
--- the status is this fault of the text, or want of memory
-abbrev pub IsRefusal : GrammarFault → Status → Type 0
-IsRefusal g (Grammar found) = found ≡ g
-IsRefusal g OutOfMemory = Unit {0}
-IsRefusal g Satisfiable = ⊥
-IsRefusal g Unsatisfiable = ⊥
-IsRefusal g Unknown = ⊥
-IsRefusal g Usage = ⊥
-IsRefusal g Verified = ⊥
-IsRefusal g (NotVerified reason) = ⊥
-IsRefusal g (LogGrammar fault) = ⊥
-IsRefusal g ReadFault = ⊥
-IsRefusal g SinkFault = ⊥
-
--- where nothing fails, a text that spells a formula is decided, and another one is refused by its first fault
-pub record IsComplete (told : Option (List ℕ)) (old new : Streams) (status : Status) : Type 0 where
-  pub decided : (text : List ℕ) (f : Cnf) → told ≡ Some text → IsFormulaOf program_limits text f
-      → NothingRose old new → IsDecision status
-  pub refused : (text : List ℕ) (g : GrammarFault) → told ≡ Some text → fault_of program_limits text ≡ Some g
-      → NothingRose old new → IsRefusal g status
-
 -- the solve theorem: each status has its cause and its text, no verdict is false or stands over a torn log,
 -- and there is no other answer where nothing fails
 pub record Solves (o : SolveOptions) (old new : Streams) (r : Report) : Type 0 where
@@ -217,3 +141,7 @@ SparesProof (LogGrammar fault) = Unit {0}
 SparesProof Unsatisfiable = ⊥
 SparesProof SinkFault = ⊥
 SparesProof OutOfMemory = ⊥
+
+-- what a source had left was read through, and spells a formula that a log refutes
+abbrev pub IsRefuted : Option (List ℕ) → Option (List ℕ) → Type 0
+IsRefuted left rest = (f : Cnf) × Reads program_limits (Ok f) left rest × HasRefutation f

@@ -45,6 +45,20 @@ IsWellRead SinkFault = Unit {0}
 IsWellRead ReadFault = ⊥
 IsWellRead OutOfMemory = ⊥
 
+-- a status that comes only where no write to the output failed
+abbrev pub IsWellWritten : Status → Type 0
+IsWellWritten Satisfiable = Unit {0}
+IsWellWritten Unsatisfiable = Unit {0}
+IsWellWritten Unknown = Unit {0}
+IsWellWritten Verified = Unit {0}
+IsWellWritten (NotVerified reason) = Unit {0}
+IsWellWritten Usage = Unit {0}
+IsWellWritten (Grammar fault) = Unit {0}
+IsWellWritten (LogGrammar fault) = Unit {0}
+IsWellWritten ReadFault = Unit {0}
+IsWellWritten SinkFault = ⊥
+IsWellWritten OutOfMemory = ⊥
+
 -- the status where a sink did not take a text
 abbrev pub cut_status : SinkError → Status
 cut_status sinks.Fault = SinkFault

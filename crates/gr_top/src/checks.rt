@@ -3,13 +3,14 @@ ghost use Rattle.std.specs.Prelude.{◌≡◌, OnOk};
 ghost use Rattle.gr_text.specs.Places.{at_start};
 ghost use Rattle.gr_top.specs.CheckedLogs.{LogGives, shown};
 ghost use Rattle.gr_top.specs.Checking.{Checks, Judges, output, sources};
-ghost use Rattle.gr_top.specs.Statuses.{IsWellRead};
+ghost use Rattle.gr_top.specs.Statuses.{IsWellRead, IsWellWritten};
 
+use crate::reading::read_formula;
 use crate::refusal_texts::write_check;
 use crate::reports::{Report, ended};
 use crate::statuses::{Status, Stop, finish_status, refused_status, stop_status, unread_status};
 use gr_check::Checker;
-use gr_dimacs::{PROGRAM_LIMITS, ReadError, read};
+use gr_dimacs::ReadError;
 use gr_io::{Sink, Source};
 use gr_logic::Formula;
 use gr_lrat::next_line;
@@ -36,6 +37,7 @@ pub fn run_check<A: Source, B: Source, C: Sink>(
     ensures out { result.status ≡ Status.ReadFault → out.new ≡ out.old }
     ensures calm { IsWellRead result.status →
         (A.faults cnf.new ≡ A.faults cnf.old) × (B.faults log.new ≡ B.faults log.old) }
+    ensures calm_out { IsWellWritten result.status → C.faults out.new ≡ C.faults out.old }
 {
     match judge(alloc, cnf, log) {
         Ok(due) => ended(alloc, write_check(due, out), due),
@@ -51,7 +53,7 @@ fn judge<A: Source, B: Source>(alloc: Global, cnf: &mut A, log: &mut B) -> Resul
     ensures calm { OnOk result
         ((A.faults cnf.new ≡ A.faults cnf.old) × (B.faults log.new ≡ B.faults log.old)) }
 {
-    match read(alloc, cnf, &PROGRAM_LIMITS) {
+    match read_formula(alloc, cnf) {
         Ok(formula) => check_log(alloc, &formula, log),
         Err(ReadError::Grammar(fault)) => Ok(Status::Grammar(fault)),
         Err(ReadError::ReadFault) => Err(Stop::ReadFault),

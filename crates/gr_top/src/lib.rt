@@ -3,6 +3,7 @@
 
 mod checks;
 mod made;
+mod reading;
 mod refusal_texts;
 mod reports;
 mod runs;

@@ -7,6 +7,7 @@ ghost use Rattle.gr_top.specs.Checking.{output};
 ghost use Rattle.gr_top.specs.Commands.{default_options};
 ghost use Rattle.gr_top.specs.MadeTexts.{large_text};
 ghost use Rattle.gr_top.specs.Making.{Makes, formula_made};
+ghost use Rattle.gr_top.specs.Statuses.{IsWellWritten};
 
 use crate::reports::{Report, reported};
 use crate::statuses::Status;
@@ -46,6 +47,7 @@ pub fn run_large<R: Threads + Wait + Sync, C: Sink, G: Gate>(
     ensures makes { Makes large.kind large.n
         (output (C.written out.old) (C.faults out.old)) (output (C.written out.new) (C.faults out.new))
         result }
+    ensures calm_out { IsWellWritten result.status → C.faults out.new ≡ C.faults out.old }
 {
     match make(alloc, large) {
         Ok(formula) => answer_made(rt, alloc, large, &formula, out, gate),
@@ -79,6 +81,7 @@ fn answer_made<R: Threads + Wait + Sync, C: Sink, G: Gate>(
     ensures makes { Makes large.kind large.n
         (output (C.written out.old) (C.faults out.old)) (output (C.written out.new) (C.faults out.new))
         result }
+    ensures calm_out { IsWellWritten result.status → C.faults out.new ≡ C.faults out.old }
 {
     let Ok(ran) = solve_shared(rt, alloc, formula, &default_options(), gate) else {
         return Report::bare(alloc, Status::OutOfMemory);
@@ -116,6 +119,7 @@ fn write_made<C: Sink>(
     ensures err { OnErr result (GainsPart (large_text large.kind large.n formula.now verdict.now)
         (C.written out.old) (C.written out.new)) }
     ensures fault { IfErr result (λ e. e ≡ SinkError.Fault → Rose (C.faults out.old) (C.faults out.new)) }
+    ensures calm { OnOk result (C.faults out.new ≡ C.faults out.old) }
     ensures grows { C.faults out.old ≤ C.faults out.new }
 {
     match large_text(alloc, large, formula, verdict) {

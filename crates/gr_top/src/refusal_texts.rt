@@ -15,6 +15,7 @@ pub fn write_check<K: Sink>(status: Status, out: &mut K) -> Result<(), SinkError
     ensures ok { OnOk result (Gains (check_text status) (K.written out.old) (K.written out.new)) }
     ensures err { OnErr result (GainsPart (check_text status) (K.written out.old) (K.written out.new)) }
     ensures fault { IfErr result (λ e. e ≡ SinkError.Fault → Rose (K.faults out.old) (K.faults out.new)) }
+    ensures calm { OnOk result (K.faults out.new ≡ K.faults out.old) }
     ensures grows { K.faults out.old ≤ K.faults out.new }
 {
     match status {
@@ -31,6 +32,7 @@ fn write_not_verified<K: Sink>(reason: NotVerified, out: &mut K) -> Result<(), S
     ensures ok { OnOk result (Gains (not_verified_text reason) (K.written out.old) (K.written out.new)) }
     ensures err { OnErr result (GainsPart (not_verified_text reason) (K.written out.old) (K.written out.new)) }
     ensures fault { IfErr result (λ e. e ≡ SinkError.Fault → Rose (K.faults out.old) (K.faults out.new)) }
+    ensures calm { OnOk result (K.faults out.new ≡ K.faults out.old) }
     ensures grows { K.faults out.old ≤ K.faults out.new }
 {
     match reason {
@@ -44,6 +46,7 @@ fn write_refused_line<K: Sink>(line: u64, cause: Cause, out: &mut K) -> Result<(
     ensures ok { OnOk result (Gains (refused_line_text line cause) (K.written out.old) (K.written out.new)) }
     ensures err { OnErr result (GainsPart (refused_line_text line cause) (K.written out.old) (K.written out.new)) }
     ensures fault { IfErr result (λ e. e ≡ SinkError.Fault → Rose (K.faults out.old) (K.faults out.new)) }
+    ensures calm { OnOk result (K.faults out.new ≡ K.faults out.old) }
     ensures grows { K.faults out.old ≤ K.faults out.new }
 {
     let mut printer = Printer::new(out);
@@ -67,6 +70,7 @@ fn print_refused_line<K: Sink>(
         (K.written printer.old.sink.now) (K.written printer.new.sink.now)) }
     ensures fault { IfErr result (λ e. e ≡ SinkError.Fault →
         Rose (K.faults printer.old.sink.now) (K.faults printer.new.sink.now)) }
+    ensures calm { OnOk result (K.faults printer.new.sink.now ≡ K.faults printer.old.sink.now) }
     ensures grows { K.faults printer.old.sink.now ≤ K.faults printer.new.sink.now }
 {
     let mut digits = Buffer::new();
@@ -86,6 +90,7 @@ fn print_cause<K: Sink>(cause: Cause, printer: &mut Printer<'_, K>) -> Result<()
         (K.written printer.old.sink.now) (K.written printer.new.sink.now)) }
     ensures fault { IfErr result (λ e. e ≡ SinkError.Fault →
         Rose (K.faults printer.old.sink.now) (K.faults printer.new.sink.now)) }
+    ensures calm { OnOk result (K.faults printer.new.sink.now ≡ K.faults printer.old.sink.now) }
     ensures grows { K.faults printer.old.sink.now ≤ K.faults printer.new.sink.now }
 {
     let mut digits = Buffer::new();
@@ -126,6 +131,7 @@ fn write_log_fault<K: Sink>(fault: LogFault, out: &mut K) -> Result<(), SinkErro
     ensures ok { OnOk result (Gains (log_fault_text fault) (K.written out.old) (K.written out.new)) }
     ensures err { OnErr result (GainsPart (log_fault_text fault) (K.written out.old) (K.written out.new)) }
     ensures fault { IfErr result (λ e. e ≡ SinkError.Fault → Rose (K.faults out.old) (K.faults out.new)) }
+    ensures calm { OnOk result (K.faults out.new ≡ K.faults out.old) }
     ensures grows { K.faults out.old ≤ K.faults out.new }
 {
     let mut printer = Printer::new(out);
@@ -145,6 +151,7 @@ fn print_log_fault<K: Sink>(fault: LogFault, printer: &mut Printer<'_, K>) -> Re
         (K.written printer.old.sink.now) (K.written printer.new.sink.now)) }
     ensures fault { IfErr result (λ e. e ≡ SinkError.Fault →
         Rose (K.faults printer.old.sink.now) (K.faults printer.new.sink.now)) }
+    ensures calm { OnOk result (K.faults printer.new.sink.now ≡ K.faults printer.old.sink.now) }
     ensures grows { K.faults printer.old.sink.now ≤ K.faults printer.new.sink.now }
 {
     let mut digits = Buffer::new();

@@ -11,8 +11,8 @@ use gr_logic::Assignment;
 use gr_run::Ran;
 use std::alloc::Global;
 
-/// How a call ended, and what it found. Beside `Satisfiable` there is no model; beside that, `Unsatisfiable` and `Unknown`
-/// the diary has no entries.
+/// How a call ended, and what it found. Beside `Satisfiable` there is no model; beside that,
+/// `Unsatisfiable` and `Unknown` the diary has no entries.
 #[derive(Debug, Drop)]
 pub struct Report {
     pub status: Status,

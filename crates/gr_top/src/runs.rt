@@ -12,19 +12,21 @@ ghost use Rattle.gr_words.specs.Meanings.{Solving};
 ghost use Rattle.gr_words.specs.declared.calls.Kind.{Kind};
 ghost use Rattle.gr_top.specs.Checking.{Checks, output, sources};
 ghost use Rattle.gr_top.specs.Commands.{run_options};
+ghost use Rattle.gr_top.specs.Histories.{HasRefutation};
 ghost use Rattle.gr_top.specs.Making.{Makes};
 ghost use Rattle.gr_top.specs.Sinks.{sinks, TellsRefutation, CutRefutation};
 ghost use Rattle.gr_top.specs.Refusing.{Refuses};
-ghost use Rattle.gr_top.specs.Statuses.{IsWellRead};
-ghost use Rattle.gr_top.specs.Solving.{streams, Answers, Solves, SparesProof};
+ghost use Rattle.gr_top.specs.Statuses.{IsWellRead, IsWellWritten};
+ghost use Rattle.gr_top.specs.Solving.{Answers, IsRefuted, Solves, SparesProof};
+ghost use Rattle.gr_top.specs.Streams.{streams};
 
 use crate::checks::run_check;
 use crate::made::run_large;
+use crate::reading::{read_formula, report_unread};
 use crate::reports::{Report, ended, reported};
 use crate::statuses::Status;
-use crate::texts::{write_fault, write_model, write_unknown, write_unsatisfiable, write_usage};
+use crate::texts::{write_model, write_unknown, write_unsatisfiable, write_usage};
 use gr_diary::Diary;
-use gr_dimacs::{PROGRAM_LIMITS, ReadError, read};
 use gr_history::write_history;
 use gr_io::{Gate, Sink, SinkError, Source};
 use gr_logic::Formula;
@@ -34,13 +36,14 @@ use std::alloc::Global;
 use std::sync::Wait;
 use std::thread::Threads;
 
-/// Runs the program over its words and its streams. For the words `solve CNF LOG`, with options, it reads a formula in
-/// DIMACS CNF from `cnf`, decides it, writes the lines of a refutation to `proof` in text LRAT and then the verdict to
-/// `out`, for a satisfiable formula with an assignment; `log` is not read. For the words `check CNF LOG` it checks the
-/// proof log that it reads from `log` against the formula, and writes to `out` what it comes to. For `large KIND N` it
-/// makes a formula that no assignment satisfies, decides it, and writes a summary to `out`; nothing is read. Reducers work
-/// in threads of their own, which have ended when it returns; the searching thread and each reducer pass `gate`. With
-/// reducers it may wait for a turn or a thread.
+/// Runs the program over its words and its streams. For the words `solve CNF LOG`, with options, it
+/// reads a formula in DIMACS CNF from `cnf`, decides it, writes the lines of a refutation to `proof`
+/// in text LRAT and then the verdict to `out`, for a satisfiable formula with an assignment; `log` is
+/// not read. For the words `check CNF LOG` it checks the proof log that it reads from `log` against
+/// the formula, and writes to `out` what it comes to. For `large KIND N` it makes a formula that no
+/// assignment satisfies, decides it, and writes a summary to `out`; nothing is read. Reducers work in
+/// threads of their own, which have ended when it returns; the searching thread and each reducer pass
+/// `gate`. With reducers it may wait for a turn or a thread.
 pub fn run<R: Threads + Wait + Sync, A: Source, B: Source, C: Sink, D: Sink, G: Gate>(
     rt: &R,
     alloc: Global,
@@ -73,11 +76,13 @@ pub fn run<R: Threads + Wait + Sync, A: Source, B: Source, C: Sink, D: Sink, G: 
         result }
     ensures log { (IsCheck words.now → ⊥) → log.new ≡ log.old }
     ensures proof { SparesProof result.status → proof.new ≡ proof.old }
+    ensures unrefuted { (IsRefuted (A.left cnf.old) (A.left cnf.new) → ⊥) → proof.new ≡ proof.old }
     ensures proof_of_others { ((s : Solving) → IsSolve s words.now → ⊥) → proof.new ≡ proof.old }
     ensures out { result.status ≡ Status.ReadFault → out.new ≡ out.old }
     ensures cnf { ((s : Solving) → IsSolve s words.now → ⊥) → (IsCheck words.now → ⊥) → cnf.new ≡ cnf.old }
     ensures calm { IsWellRead result.status →
         (A.faults cnf.new ≡ A.faults cnf.old) × (B.faults log.new ≡ B.faults log.old) }
+    ensures calm_out { IsWellWritten result.status → C.faults out.new ≡ C.faults out.old }
 {
     match words.call(alloc) {
         Ok(Call::Solve(words)) => solve(rt, alloc, &run_options(words), cnf, out, proof, gate),
@@ -121,51 +126,23 @@ fn solve<R: Threads + Wait + Sync, A: Source, C: Sink, D: Sink, G: Gate>(
         (C.written out.new) (C.faults out.new) (D.written proof.new) (D.faults proof.new))
         result }
     ensures proof { SparesProof result.status → proof.new ≡ proof.old }
+    ensures unrefuted { (IsRefuted (A.left cnf.old) (A.left cnf.new) → ⊥) → proof.new ≡ proof.old }
     ensures out { result.status ≡ Status.ReadFault → out.new ≡ out.old }
     ensures calm { IsWellRead result.status → A.faults cnf.new ≡ A.faults cnf.old }
+    ensures calm_out { IsWellWritten result.status → C.faults out.new ≡ C.faults out.old }
 {
     if options.reducers == 0 {
         return run_alone(alloc, options, cnf, out, proof);
     }
-    run_beside(rt, alloc, options, cnf, out, proof, gate)
-}
-
-/// Reads a formula and decides it beside reducers.
-fn run_beside<R: Threads + Wait + Sync, A: Source, C: Sink, D: Sink, G: Gate>(
-    rt: &R,
-    alloc: Global,
-    options: &SolveOptions,
-    cnf: &mut A,
-    out: &mut C,
-    proof: &mut D,
-    gate: &G,
-) -> Report
-    requires in_range { AreInRange options.now }
-    ensures solves { Solves options.now
-        (streams (A.left cnf.old) (A.faults cnf.old)
-        (C.written out.old) (C.faults out.old) (D.written proof.old) (D.faults proof.old))
-        (streams (A.left cnf.new) (A.faults cnf.new)
-        (C.written out.new) (C.faults out.new) (D.written proof.new) (D.faults proof.new))
-        result }
-    ensures proof { SparesProof result.status → proof.new ≡ proof.old }
-    ensures out { result.status ≡ Status.ReadFault → out.new ≡ out.old }
-    ensures calm { IsWellRead result.status → A.faults cnf.new ≡ A.faults cnf.old }
-{
-    match read(alloc, cnf, &PROGRAM_LIMITS) {
+    match read_formula(alloc, cnf) {
         Ok(formula) => answer_beside(rt, alloc, options, &formula, out, proof, gate),
-        Err(ReadError::Grammar(fault)) => ended(
-            alloc,
-            write_fault(fault, out),
-            Status::Grammar(fault),
-        ),
-        Err(ReadError::ReadFault) => Report::bare(alloc, Status::ReadFault),
-        Err(ReadError::OutOfMemory) => Report::bare(alloc, Status::OutOfMemory),
+        Err(failed) => report_unread(alloc, failed, out),
     }
 }
 
-/// Reads a formula and decides it on one thread, or tells why there is no answer: the command `solve` without reducers,
-/// once its words are read. `cnf` is read to the end of the formula, the lines of a refutation are written to `proof`, and
-/// then the verdict to `out`. It waits for nothing.
+/// Reads a formula and decides it on one thread, or tells why there is no answer: the command `solve`
+/// without reducers, once its words are read. `cnf` is read to the end of the formula, the lines of a
+/// refutation are written to `proof`, and then the verdict to `out`. It waits for nothing.
 pub fn run_alone<A: Source, C: Sink, D: Sink>(
     alloc: Global,
     options: &SolveOptions,
@@ -182,18 +159,14 @@ pub fn run_alone<A: Source, C: Sink, D: Sink>(
         (C.written out.new) (C.faults out.new) (D.written proof.new) (D.faults proof.new))
         result }
     ensures proof { SparesProof result.status → proof.new ≡ proof.old }
+    ensures unrefuted { (IsRefuted (A.left cnf.old) (A.left cnf.new) → ⊥) → proof.new ≡ proof.old }
     ensures out { result.status ≡ Status.ReadFault → out.new ≡ out.old }
     ensures calm { IsWellRead result.status → A.faults cnf.new ≡ A.faults cnf.old }
+    ensures calm_out { IsWellWritten result.status → C.faults out.new ≡ C.faults out.old }
 {
-    match read(alloc, cnf, &PROGRAM_LIMITS) {
+    match read_formula(alloc, cnf) {
         Ok(formula) => answer_alone(alloc, options, &formula, out, proof),
-        Err(ReadError::Grammar(fault)) => ended(
-            alloc,
-            write_fault(fault, out),
-            Status::Grammar(fault),
-        ),
-        Err(ReadError::ReadFault) => Report::bare(alloc, Status::ReadFault),
-        Err(ReadError::OutOfMemory) => Report::bare(alloc, Status::OutOfMemory),
+        Err(failed) => report_unread(alloc, failed, out),
     }
 }
 
@@ -212,6 +185,8 @@ fn answer_alone<C: Sink, D: Sink>(
         (sinks (C.written out.new) (C.faults out.new) (D.written proof.new) (D.faults proof.new))
         result }
     ensures proof { SparesProof result.status → proof.new ≡ proof.old }
+    ensures unrefuted { (HasRefutation formula.now → ⊥) → proof.new ≡ proof.old }
+    ensures calm_out { IsWellWritten result.status → C.faults out.new ≡ C.faults out.old }
 {
     match solve_alone(alloc, formula, options) {
         Ok(ran) => tell(alloc, ran, out, proof),
@@ -235,6 +210,8 @@ fn answer_beside<R: Threads + Wait + Sync, C: Sink, D: Sink, G: Gate>(
         (sinks (C.written out.new) (C.faults out.new) (D.written proof.new) (D.faults proof.new))
         result }
     ensures proof { SparesProof result.status → proof.new ≡ proof.old }
+    ensures unrefuted { (HasRefutation formula.now → ⊥) → proof.new ≡ proof.old }
+    ensures calm_out { IsWellWritten result.status → C.faults out.new ≡ C.faults out.old }
 {
     match solve_shared(rt, alloc, formula, options, gate) {
         Ok(ran) => tell(alloc, ran, out, proof),
@@ -251,6 +228,9 @@ fn tell<C: Sink, D: Sink>(alloc: Global, ran: Ran, out: &mut C, proof: &mut D) -
         (sinks (C.written out.new) (C.faults out.new) (D.written proof.new) (D.faults proof.new))
         result }
     ensures proof { SparesProof result.status → proof.new ≡ proof.old }
+    ensures unrefuted { (f : Cnf) (o : SolveOptions) → IsRan f o ran → (HasRefutation f → ⊥)
+        → proof.new ≡ proof.old }
+    ensures calm_out { IsWellWritten result.status → C.faults out.new ≡ C.faults out.old }
 {
     match ran.verdict {
         Verdict::Satisfiable => {
@@ -281,6 +261,7 @@ fn write_refutation<C: Sink, D: Sink>(
     ensures err { IfErr result (CutRefutation (lines_in diary.now)
         (sinks (C.written out.old) (C.faults out.old) (D.written proof.old) (D.faults proof.old))
         (sinks (C.written out.new) (C.faults out.new) (D.written proof.new) (D.faults proof.new))) }
+    ensures calm_out { OnOk result (C.faults out.new ≡ C.faults out.old) }
 {
     // The log is whole before the verdict begins: no verdict stands over a torn log.
     match write_history(diary, proof) {

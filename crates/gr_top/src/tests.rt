@@ -1,5 +1,6 @@
 // The call over memory: what it writes and how it ends, on inputs from outside.
 mod checking;
+mod failing;
 mod reducing;
 mod solving;
 
@@ -9,6 +10,8 @@ use std::alloc::Global;
 use std::sync::Wait;
 use std::test::Fail;
 use std::thread::Threads;
+
+const ONE_MODEL: &str = "p cnf 3 3\n1 0\n-1 -2 0\n2 3 0\n";
 
 const FOUR_CLAUSES: &str = "p cnf 2 4\n1 2 0\n1 -2 0\n-1 2 0\n-1 -2 0\n";
 

@@ -30,6 +30,7 @@ pub fn write_usage<K: Sink>(out: &mut K) -> Result<(), SinkError>
     ensures ok { OnOk result (Gains (usage_text) (K.written out.old) (K.written out.new)) }
     ensures err { OnErr result (GainsPart (usage_text) (K.written out.old) (K.written out.new)) }
     ensures fault { IfErr result (λ e. e ≡ SinkError.Fault → Rose (K.faults out.old) (K.faults out.new)) }
+    ensures calm { OnOk result (K.faults out.new ≡ K.faults out.old) }
     ensures grows { K.faults out.old ≤ K.faults out.new }
 {
     out.write(
@@ -45,6 +46,7 @@ pub fn write_unsatisfiable<K: Sink>(out: &mut K) -> Result<(), SinkError>
     ensures ok { OnOk result (Gains (unsatisfiable_line) (K.written out.old) (K.written out.new)) }
     ensures err { OnErr result (GainsPart (unsatisfiable_line) (K.written out.old) (K.written out.new)) }
     ensures fault { IfErr result (λ e. e ≡ SinkError.Fault → Rose (K.faults out.old) (K.faults out.new)) }
+    ensures calm { OnOk result (K.faults out.new ≡ K.faults out.old) }
     ensures grows { K.faults out.old ≤ K.faults out.new }
 {
     out.write(b"s UNSATISFIABLE\n")
@@ -55,6 +57,7 @@ pub fn write_unknown<K: Sink>(out: &mut K) -> Result<(), SinkError>
     ensures ok { OnOk result (Gains (unknown_line) (K.written out.old) (K.written out.new)) }
     ensures err { OnErr result (GainsPart (unknown_line) (K.written out.old) (K.written out.new)) }
     ensures fault { IfErr result (λ e. e ≡ SinkError.Fault → Rose (K.faults out.old) (K.faults out.new)) }
+    ensures calm { OnOk result (K.faults out.new ≡ K.faults out.old) }
     ensures grows { K.faults out.old ≤ K.faults out.new }
 {
     out.write(b"s UNKNOWN\n")
@@ -65,6 +68,7 @@ pub fn write_fault<K: Sink>(fault: GrammarFault, out: &mut K) -> Result<(), Sink
     ensures ok { OnOk result (Gains (fault_text fault) (K.written out.old) (K.written out.new)) }
     ensures err { OnErr result (GainsPart (fault_text fault) (K.written out.old) (K.written out.new)) }
     ensures fault { IfErr result (λ e. e ≡ SinkError.Fault → Rose (K.faults out.old) (K.faults out.new)) }
+    ensures calm { OnOk result (K.faults out.new ≡ K.faults out.old) }
     ensures grows { K.faults out.old ≤ K.faults out.new }
 {
     let mut printer = Printer::new(out);
@@ -84,6 +88,7 @@ fn print_fault<K: Sink>(fault: GrammarFault, printer: &mut Printer<'_, K>) -> Re
         (K.written printer.old.sink.now) (K.written printer.new.sink.now)) }
     ensures fault { IfErr result (λ e. e ≡ SinkError.Fault →
         Rose (K.faults printer.old.sink.now) (K.faults printer.new.sink.now)) }
+    ensures calm { OnOk result (K.faults printer.new.sink.now ≡ K.faults printer.old.sink.now) }
     ensures grows { K.faults printer.old.sink.now ≤ K.faults printer.new.sink.now }
 {
     let mut digits = Buffer::new();
@@ -115,6 +120,7 @@ pub fn write_model<K: Sink>(model: &Assignment, out: &mut K) -> Result<(), SinkE
     ensures ok { OnOk result (Gains (satisfiable_text model.now) (K.written out.old) (K.written out.new)) }
     ensures err { OnErr result (GainsPart (satisfiable_text model.now) (K.written out.old) (K.written out.new)) }
     ensures fault { IfErr result (λ e. e ≡ SinkError.Fault → Rose (K.faults out.old) (K.faults out.new)) }
+    ensures calm { OnOk result (K.faults out.new ≡ K.faults out.old) }
     ensures grows { K.faults out.old ≤ K.faults out.new }
 {
     let mut printer = Printer::new(out);
@@ -134,6 +140,7 @@ fn print_model<K: Sink>(model: &Assignment, printer: &mut Printer<'_, K>) -> Res
         (K.written printer.old.sink.now) (K.written printer.new.sink.now)) }
     ensures fault { IfErr result (λ e. e ≡ SinkError.Fault →
         Rose (K.faults printer.old.sink.now) (K.faults printer.new.sink.now)) }
+    ensures calm { OnOk result (K.faults printer.new.sink.now ≡ K.faults printer.old.sink.now) }
     ensures grows { K.faults printer.old.sink.now ≤ K.faults printer.new.sink.now }
 {
     printer.bytes(b"s SATISFIABLE\nv")?;
@@ -151,6 +158,7 @@ fn print_literals<K: Sink>(values: &[bool], printer: &mut Printer<'_, K>) -> Res
         (K.written printer.old.sink.now) (K.written printer.new.sink.now)) }
     ensures fault { IfErr result (λ e. e ≡ SinkError.Fault →
         Rose (K.faults printer.old.sink.now) (K.faults printer.new.sink.now)) }
+    ensures calm { OnOk result (K.faults printer.new.sink.now ≡ K.faults printer.old.sink.now) }
     ensures grows { K.faults printer.old.sink.now ≤ K.faults printer.new.sink.now }
 {
     let mut var = 0;
@@ -203,6 +211,7 @@ fn print_literal<K: Sink>(
         (K.written printer.old.sink.now) (K.written printer.new.sink.now)) }
     ensures fault { IfErr result (λ e. e ≡ SinkError.Fault →
         Rose (K.faults printer.old.sink.now) (K.faults printer.new.sink.now)) }
+    ensures calm { OnOk result (K.faults printer.new.sink.now ≡ K.faults printer.old.sink.now) }
     ensures grows { K.faults printer.old.sink.now ≤ K.faults printer.new.sink.now }
 {
     printer.bytes(gap(place).as_bytes())?;

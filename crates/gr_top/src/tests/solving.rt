@@ -1,7 +1,7 @@
 // Formulas that are decided or made, and words that are refused.
-use super::{FOUR_CLAUSES, source_of, status, words_of};
+use super::{FOUR_CLAUSES, ONE_MODEL, source_of, status, words_of};
 use crate::{code, files, run_check};
-use gr_io::{MemSink, MemSource, TextSink, TextSource};
+use gr_io::{TextSink, TextSource};
 use std::alloc::Global;
 use std::sync::Wait;
 use std::test::Fail;
@@ -12,8 +12,6 @@ const USAGE: &str =
 c usage: glucored check CNF LOG
 c usage: glucored large KIND N
 ";
-
-const ONE_MODEL: &str = "p cnf 3 3\n1 0\n-1 -2 0\n2 3 0\n";
 
 /// Whether `solve`, with these options, ends so on a text, and writes this to the output; and whether its proof log is
 /// empty, or else verified.
@@ -60,7 +58,8 @@ fn decides_formulas(rt: HostRuntime) -> Result<(), Fail> {
         "0",
     ]
     .as_slice();
-    // Of four pigeons in three holes, no clause is a unit and none is empty, so that the first learnt clause is neither.
+    // Of four pigeons in three holes, no clause is a unit and none is empty, so that the first
+    // learnt clause is neither.
     let pigeons =
         "p cnf 12 22 1 2 3 0 4 5 6 0 7 8 9 0 10 11 12 0 -1 -4 0 -1 -7 0 -1 -10 0 -4 -7 0 -4 -10 0 -7 -10 0 \
 -2 -5 0 -2 -8 0 -2 -11 0 -5 -8 0 -5 -11 0 -8 -11 0 -3 -6 0 -3 -9 0 -3 -12 0 -6 -9 0 -6 -12 0 -9 -12 0";
@@ -180,40 +179,5 @@ fn makes_formulas_and_refutes_them(rt: HostRuntime) -> Result<(), Fail> {
     let pigeons = "c pigeons 4\nc variables 12 clauses 22\ns UNSATISFIABLE\nc log VERIFIED\n";
     assert!(rt; is_made(&rt, rt.alloc(), "odd_ring", "2001", ring)?);
     assert!(rt; is_made(&rt, rt.alloc(), "pigeons", "4", pigeons)?);
-    Ok(())
-}
-
-#[test]
-fn leaves_no_verdict_where_a_stream_fails(rt: HostRuntime) -> Result<(), Fail> {
-    let alloc = rt.alloc();
-    let words = words_of(alloc, &["solve", "f.cnf", "f.lrat"])?;
-    let first = [1].as_slice();
-    let second = [2].as_slice();
-    let never = [].as_slice();
-    // The text, the calls of the source, the output and the proof log that fail, the status, and whether there is a log.
-    let cases = [
-        (ONE_MODEL, second, never, never, 4, false),
-        (ONE_MODEL, never, first, never, 5, false),
-        (FOUR_CLAUSES, never, never, first, 5, false),
-        (FOUR_CLAUSES, never, first, never, 5, true),
-    ];
-    for (text, reads, outs, proofs, want, is_logged) in cases {
-        let text = Vec::from_slice(alloc, text.as_bytes())?;
-        let mut cnf = MemSource::new(text, 8, Vec::from_slice(alloc, reads)?);
-        let mut out = MemSink::new(alloc, Vec::from_slice(alloc, outs)?, 0);
-        let mut proof = MemSink::new(alloc, Vec::from_slice(alloc, proofs)?, 0);
-        let ended = status(&rt, alloc, &words, &mut cnf, &mut out, &mut proof);
-        assert_eq!(rt; ended, want, "with {reads:?} {outs:?} {proofs:?}");
-        assert_eq!(rt;
-            out.text(),
-            b"".as_slice(),
-            "with {reads:?} {outs:?} {proofs:?}"
-        );
-        assert_eq!(rt;
-            !proof.text().is_empty(),
-            is_logged,
-            "with {reads:?} {outs:?} {proofs:?}"
-        );
-    }
     Ok(())
 }

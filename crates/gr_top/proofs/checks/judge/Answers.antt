@@ -18,7 +18,7 @@ returns-in-Err-ReadFault-clause-judges g c =
     let left = g.A.Source.left in
     let old = sources (left c.args.cnf.now) (g.A.Source.faults c.args.cnf.now)
     (g.B.Source.left c.args.log.now) (g.B.Source.faults c.args.log.now) in
-    let new = sources (left c.read.new.source) (g.A.Source.faults c.read.new.source)
+    let new = sources (left c.read_formula.new.cnf) (g.A.Source.faults c.read_formula.new.cnf)
     (g.B.Source.left c.args.log.now) (g.B.Source.faults c.args.log.now) in
     let reads = rw c.in-Err-ReadFault.field-0-is at c.in-Err-ReadFault.ensures.answer in
     unread-judges old new (c.in-Err-ReadFault.ensures.fault c.in-Err-ReadFault.field-0-is) reads refl
@@ -28,7 +28,7 @@ returns-in-Err-OutOfMemory-clause-judges g c =
     let left = g.A.Source.left in
     let old = sources (left c.args.cnf.now) (g.A.Source.faults c.args.cnf.now)
     (g.B.Source.left c.args.log.now) (g.B.Source.faults c.args.log.now) in
-    let new = sources (left c.read.new.source) (g.A.Source.faults c.read.new.source)
+    let new = sources (left c.read_formula.new.cnf) (g.A.Source.faults c.read_formula.new.cnf)
     (g.B.Source.left c.args.log.now) (g.B.Source.faults c.args.log.now) in
     short-judges old new (rw c.in-Err-OutOfMemory.field-0-is at c.in-Err-OutOfMemory.ensures.answer) refl
 

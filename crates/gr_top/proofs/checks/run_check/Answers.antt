@@ -1,5 +1,6 @@
 use Rattle.std.proofs.Common.{◌∙◌, refl, sym}
 use Rattle.gr_top.proofs.JudgedLogs.{stopped-unread}
+use Rattle.gr_top.proofs.Answered.{where-written}
 use Rattle.gr_top.proofs.Checked.{told-checks, stopped-checks, due-is-no-read-fault}
 use Rattle.gr_top.proofs.checks.run_check.Goals as goal
 
@@ -12,7 +13,8 @@ returns-in-Ok-clause-checks g c =
 pub returns-in-Err-clause-checks : goal.returns-in-Err-clause-checks
 returns-in-Err-clause-checks g c =
     stopped-checks c.in-Err.stopped _ _ _ _ c.bare.result c.in-Err.ensures.judges refl
-    (c.bare.ensures.status ∙ c.stop_status.ensures) (record { model = c.bare.ensures.model; diary = c.bare.ensures.diary })
+    (c.bare.ensures.status ∙ c.stop_status.ensures)
+    (record { model = c.bare.ensures.model; diary = c.bare.ensures.diary })
 
 pub returns-in-Ok-clause-out : goal.returns-in-Ok-clause-out
 returns-in-Ok-clause-out g c is =
@@ -25,3 +27,7 @@ returns-in-Ok-clause-calm g c well = c.in-Ok.ensures.calm
 pub returns-in-Err-clause-calm : goal.returns-in-Err-clause-calm
 returns-in-Err-clause-calm g c well =
     absurd (stopped-unread c.in-Err.stopped _ (c.bare.ensures.status ∙ c.stop_status.ensures) well)
+
+pub returns-in-Ok-clause-calm_out : goal.returns-in-Ok-clause-calm_out
+returns-in-Ok-clause-calm_out g c well =
+    where-written c.write_check.result _ _ c.ended.ensures.status well c.write_check.ensures.calm

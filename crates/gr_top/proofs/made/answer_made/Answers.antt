@@ -9,6 +9,7 @@ use Rattle.gr_top.specs.MadeTexts.{large_text, refuted_lines}
 use Rattle.gr_top.specs.Making.{formula_made}
 use Rattle.gr_top.specs.Texts.{unknown_line}
 use Rattle.gr_top.proofs.Reported.{lines-of, refuted-of, refutation-of}
+use Rattle.gr_top.proofs.Answered.{where-written}
 use Rattle.gr_top.proofs.MadeFormulas.{refuted-makes, spent-makes}
 use Rattle.gr_top.proofs.made.answer_made.Goals as goal
 
@@ -43,6 +44,8 @@ returns-in-Ok-true g c =
       makes = refuted-makes kind n c.in-Ok.ran is offered _ _ c.reported.result
           c.write_made-done.result c.in-Unsatisfiable.is whole part c.write_made-done.ensures.fault
           c.reported.ensures.status c.reported.ensures.reports;
+      calm_out = λ well.
+          where-written c.write_made-done.result _ _ c.reported.ensures.status well c.write_made-done.ensures.calm;
     }
 
 pub returns-in-Unknown : goal.returns-in-Unknown
@@ -64,4 +67,6 @@ returns-in-Unknown g c =
       makes = spent-makes kind n c.in-Ok.ran is offered _ _ c.reported-in-Unknown.result
           done c.in-Unknown.is whole part c.write_made-done-in-Unknown.ensures.fault
           c.reported-in-Unknown.ensures.status c.reported-in-Unknown.ensures.reports;
+      calm_out = λ well.
+          where-written done _ _ c.reported-in-Unknown.ensures.status well c.write_made-done-in-Unknown.ensures.calm;
     }

@@ -50,7 +50,8 @@ returns c =
     (c.in_ok-push_str-4.ensures.bytes ∙ ap (λ text. t3 ++ text) c.format.ensures.text)
     c.in_ok-push_str-5.ensures.bytes in
     let last = five t5 t6 t7 t8 t9 t10 vars (codes " clauses ") count (codes "\n") c.args.verdict.now
-    (c.in_ok-push_str-6.ensures.bytes ∙ ap (λ text. t5 ++ text) (c.format-2.ensures.text ∙ ap decimal c.vars.ensures.vars))
+    (c.in_ok-push_str-6.ensures.bytes
+    ∙ ap (λ text. t5 ++ text) (c.format-2.ensures.text ∙ ap decimal c.vars.ensures.vars))
     c.in_ok-push_str-7.ensures.bytes
     (c.in_ok-push_str-8.ensures.bytes
     ∙ ap (λ text. t7 ++ text) (c.format-3.ensures.text ∙ ap (λ cs. decimal (length cs)) c.clauses.ensures.clauses))

@@ -1,6 +1,6 @@
 use Rattle.std.proofs.Common.{◌≡◌, rules}
 use Rattle.gr_top.specs.CheckTexts.{refused_line_text}
-use Rattle.gr_top.proofs.Pieces.{flushed-ok, flushed-err}
+use Rattle.gr_history.proofs.Cuts.{flushed-ok, flushed-err}
 use Rattle.gr_top.proofs.refusal_texts.write_refused_line.Goals as goal
 
 pub returns-in-Ok-clause-ok : goal.returns-in-Ok-clause-ok

@@ -12,3 +12,7 @@ tell-requires g c = record {
 pub returns-in-Ok-clause-answers : goal.returns-in-Ok-clause-answers
 returns-in-Ok-clause-answers g c =
     c.tell.ensures.answers c.args.formula.now c.args.options.now c.in-Ok.ensures.ran c.in-Ok.ensures.offered
+
+pub returns-in-Ok-clause-unrefuted : goal.returns-in-Ok-clause-unrefuted
+returns-in-Ok-clause-unrefuted g c none =
+    c.tell.ensures.unrefuted c.args.formula.now c.args.options.now c.in-Ok.ensures.ran none

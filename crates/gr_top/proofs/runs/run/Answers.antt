@@ -2,8 +2,10 @@ use Rattle.std.proofs.Common.{◌∙◌, ap, subst, refl}
 use Rattle.gr_words.specs.Calls.{Means, options_of}
 use Rattle.gr_words.proofs.Cases.{call-solve, one-solve}
 use Rattle.gr_top.specs.Commands.{run_options}
-use Rattle.gr_top.specs.Solving.{streams, Solves}
+use Rattle.gr_top.specs.Streams.{streams}
+use Rattle.gr_top.specs.Solving.{Solves}
 use Rattle.gr_top.proofs.Called.{no-memory-solves, nothing-read}
+use Rattle.gr_top.proofs.Answered.{where-written}
 use Rattle.gr_top.proofs.runs.run.Goals as goal
 
 pub returns-in-Ok-Solve-clause-solve : goal.returns-in-Ok-Solve-clause-solve
@@ -40,3 +42,7 @@ returns-in-Err-OutOfMemory-clause-solve g c s is =
     no-memory-solves (run_options s) _ _ c.bare.result (nothing-read (g.A.Source.left c.args.cnf.now))
     (record { out = refl; proof = refl }) c.bare.ensures.status
     (record { model = c.bare.ensures.model; diary = c.bare.ensures.diary })
+
+pub returns-in-Err-Usage-clause-calm_out : goal.returns-in-Err-Usage-clause-calm_out
+returns-in-Err-Usage-clause-calm_out g c well =
+    where-written c.write_usage.result _ _ c.ended.ensures.status well c.write_usage.ensures.calm

@@ -1,5 +1,7 @@
 use Rattle.std.proofs.Common.{refl}
-use Rattle.gr_top.proofs.Reported.{model-answers, refutation-answers, unknown-answers}
+use Rattle.gr_top.specs.Histories.{log_of}
+use Rattle.gr_top.proofs.Reported.{model-answers, refutation-answers, unknown-answers, refuted-of, refutation-of}
+use Rattle.gr_top.proofs.Answered.{where-written}
 use Rattle.gr_top.proofs.runs.tell.Goals as goal
 
 pub returns-in-Satisfiable-clause-answers : goal.returns-in-Satisfiable-clause-answers
@@ -22,3 +24,22 @@ returns-in-Unknown-clause-answers g c f o is offered =
     c.reported-in-Unknown.result c.write_unknown-done.result c.in-Unknown.is c.write_unknown-done.ensures.ok
     c.write_unknown-done.ensures.err c.write_unknown-done.ensures.fault refl
     c.reported-in-Unknown.ensures.status c.reported-in-Unknown.ensures.reports
+
+pub returns-in-Unsatisfiable-clause-unrefuted : goal.returns-in-Unsatisfiable-clause-unrefuted
+returns-in-Unsatisfiable-clause-unrefuted g c f o is none =
+    let ran = c.args.ran in
+    absurd (none (log_of f o ran.diary, refutation-of f o ran is (refuted-of f o ran is c.in-Unsatisfiable.is)))
+
+pub returns-in-Satisfiable-clause-calm_out : goal.returns-in-Satisfiable-clause-calm_out
+returns-in-Satisfiable-clause-calm_out g c well =
+    where-written c.write_model-done.result _ _ c.reported.ensures.status well c.write_model-done.ensures.calm
+
+pub returns-in-Unsatisfiable-clause-calm_out : goal.returns-in-Unsatisfiable-clause-calm_out
+returns-in-Unsatisfiable-clause-calm_out g c well =
+    where-written c.write_refutation-done.result _ _ c.reported-in-Unsatisfiable.ensures.status well
+    c.write_refutation-done.ensures.calm_out
+
+pub returns-in-Unknown-clause-calm_out : goal.returns-in-Unknown-clause-calm_out
+returns-in-Unknown-clause-calm_out g c well =
+    where-written c.write_unknown-done.result _ _ c.reported-in-Unknown.ensures.status well
+    c.write_unknown-done.ensures.calm

@@ -35,6 +35,7 @@ loop-value-preserved g c =
           begun.pending here.pending then.pending
           (rw split at c.loop-value.invariant.front) (subst P lit c.in-Ok.ensures.ok));
       grows = omega (arith, c.loop-value.invariant.grows, c.print_literal.ensures.grows);
+      calm = c.in-Ok.ensures.calm ∙ c.loop-value.invariant.calm;
       var = omega (arith, c.loop-value.invariant.var);
       place = c.next_place-place.ensures.within;
     }

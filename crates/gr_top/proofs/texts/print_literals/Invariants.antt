@@ -12,6 +12,7 @@ invariant-loop-value g l = record {
       (g.K.Sink.written l.fn.printer.sink.now) l.fn.printer.pending
       (g.K.Sink.written l.printer.sink.now) l.printer.pending;
   grows : g.K.Sink.faults l.fn.printer.sink.now ≤ g.K.Sink.faults l.printer.sink.now;
+  calm : g.K.Sink.faults l.printer.sink.now ≡ g.K.Sink.faults l.fn.printer.sink.now;
   var : l.var ≡ l.value-index;
   place : l.place ≤ 20;
 }

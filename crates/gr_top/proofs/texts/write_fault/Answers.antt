@@ -1,6 +1,6 @@
 use Rattle.std.proofs.Common.{◌≡◌, rules}
 use Rattle.gr_top.specs.Texts.{fault_text}
-use Rattle.gr_top.proofs.Pieces.{flushed-ok, flushed-err}
+use Rattle.gr_history.proofs.Cuts.{flushed-ok, flushed-err}
 use Rattle.gr_top.proofs.texts.write_fault.Goals as goal
 
 pub returns-in-Ok-clause-ok : goal.returns-in-Ok-clause-ok
