@@ -7,7 +7,8 @@ use Rattle.gr_top.specs.Checking.{Sources, Output, Checks}
 use Rattle.gr_top.specs.Commands.{run_options}
 use Rattle.gr_top.specs.Making.{Makes}
 use Rattle.gr_top.specs.Refusing.{Refuses}
-use Rattle.gr_top.specs.Solving.{Streams, Solves}
+use Rattle.gr_top.specs.Streams.{Streams}
+use Rattle.gr_top.specs.Solving.{Solves}
 use Rattle.gr_top.specs.Statuses.{exit_code}
 use Rattle.gr_top.specs.declared.reports.Report.{Report}
 

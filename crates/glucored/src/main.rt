@@ -5,7 +5,7 @@ ghost use Rattle.std.specs.Prelude.{◌≡◌, drop, map, string_bytes, IfOk};
 ghost use Rattle.gr_top.specs.Checking.{output, sources};
 ghost use Rattle.gr_words.specs.Cases.{IsCheck, IsSolve};
 ghost use Rattle.gr_words.specs.Meanings.{Solving};
-ghost use Rattle.gr_top.specs.Solving.{streams};
+ghost use Rattle.gr_top.specs.Streams.{streams};
 ghost use Rattle.glucored.specs.Runs.{Ends};
 
 use gr_io::{FileSink, FileSource, Open, OutSink, Sink, Source};
@@ -13,6 +13,7 @@ use gr_logic::OutOfMemory;
 use gr_top::{Status, Words, code, files, run};
 use std::alloc::Global;
 use std::env;
+use std::fs::{self, File};
 use std::io::ErrorKind;
 use std::process::ExitCode;
 use std::sync::Wait;
@@ -23,10 +24,24 @@ fn main(rt: HostRuntime) -> ExitCode {
     ExitCode::from(status)
 }
 
-/// Runs the program over the process's words, and answers the exit status. `threads` may start threads and wait for them.
+/// Runs the program over the process's words, and answers the exit status. `threads` may start
+/// threads and wait for them.
 fn call<R: Threads + Wait + Sync>(rt: HostRuntime, threads: &R) -> Result<u8, OutOfMemory> {
     let words = read_words(rt)?;
+    let _kept = keep_standard_numbers(rt);
     call_with(rt, threads, &words)
+}
+
+/// Files that lie unread under the numbers of the standard streams that are closed. While they are
+/// kept no file that is opened later gets such a number, so what is written to standard output does
+/// not land in the proof log. Where none can be opened, none is kept.
+fn keep_standard_numbers(rt: HostRuntime) -> [Option<File>; 3] {
+    [null_file(rt), null_file(rt), null_file(rt)]
+}
+
+/// The file that is always empty, to be read.
+fn null_file(rt: HostRuntime) -> Option<File> {
+    fs::open(&rt, "/dev/null").ok()
 }
 
 /// Runs the program over these words and the files that they name, and answers the exit status.
@@ -98,7 +113,7 @@ fn read_words(rt: HostRuntime) -> Result<Words, OutOfMemory> {
 
 /// The words but the first, which is the program's name.
 fn words_behind_name(alloc: Global, args: &[String]) -> Result<Words, OutOfMemory>
-    ensures { IfOk result (λ words. words ≡ map string_bytes (drop 1 args.now)) }
+    ensures words { IfOk result (λ words. words ≡ map string_bytes (drop 1 args.now)) }
 {
     match args {
         [] => Ok(Words::new(alloc)),
@@ -108,7 +123,7 @@ fn words_behind_name(alloc: Global, args: &[String]) -> Result<Words, OutOfMemor
 
 /// These words in their order.
 fn words_of(alloc: Global, texts: &[String]) -> Result<Words, OutOfMemory>
-    ensures { IfOk result (λ words. words ≡ map string_bytes texts.now) }
+    ensures words { IfOk result (λ words. words ≡ map string_bytes texts.now) }
 {
     let mut words = Words::new(alloc);
     for text in texts {
