@@ -1,12 +1,18 @@
 -- making a struct with no fields but ghosts, step by step
 use Rattle.std.proofs.Common.{List, [], ◌∷◌, refl}
 use seplogic.Ra.Ura.{Ura}
+use mir.Syntax.{Fn}
 use mir.Val.{Val, vstruct, vnil}
+use prog.Wp.{Tables, WpFn}
+use sound.WpLaws.{WpFn-mono}
 use types.Logic.{Logic}
 use types.Kit.{Goal, Step, step, Item, ‵, ◌$◌, fjoin, fpack, feq_i}
 use denote.RattleType.{RattleType, Valss}
 use denote.Steps.{nothing}
 use denote.Struct.Struct.{Struct, within}
+use denote.Triple.Clauses.{Clauses, Ended, closing}
+use denote.Triple.Spec.{Meets}
+use denote.Triple.Walked.{AllGo, Stays, Walks, walk_Meets}
 
 -- the machine's value of such a struct
 abbrev pub none : Val
@@ -21,3 +27,10 @@ pub none_made : {M : Type 1} {𝓤 : Ura M} {𝓛 : Logic 𝓤} {K : Type 0} {Γ
 none_made t = step (λ s.
     nothing t $ feq_i t (List Val) (none ∷ []) (none ∷ []) refl $ fjoin t $
     fpack t (Valss []) (within (record { name = []; args = []; types = []; fields = [] }) tt (none ∷ [])) tt $ s)
+
+-- a function whose body was walked meets its contract
+pub walked : {M : Type 1} {𝓤 : Ura M} (𝓛 : Logic 𝓤) (T : Ended) (hs : Stays T.signature.params T.kept)
+    → AllGo 𝓛 T.signature.lifetimes T.signature.params T.kept hs → (c : Clauses 𝓤 T) (f : Fn) (𝓣 : Tables 𝓤 𝓛.H)
+    → Walks 𝓛 T hs (WpFn 𝓤 𝓛.H 𝓣.C 𝓣.Λ f) c → Meets 𝓛 T.signature (WpFn 𝓤 𝓛.H 𝓣.C 𝓣.Λ f) (closing 𝓛 T c)
+walked {𝓤 = 𝓤} 𝓛 T hs go c f 𝓣 walk =
+    walk_Meets 𝓛 T hs go c (WpFn 𝓤 𝓛.H 𝓣.C 𝓣.Λ f) (WpFn-mono 𝓤 𝓛.H 𝓛.laws 𝓣 f) walk
