@@ -1,13 +1,10 @@
 -- a scanner goes on, and its source counts what is taken
-use Rattle.std.proofs.Common.{◌≡◌, ℕ, ◌+◌, ◌≤◌, List, [], length, refl, arith, Option, if◌then◌else◌}
+use Rattle.std.proofs.Common.{◌≡◌, ℕ, ◌+◌, ◌≤◌, List, [], refl, arith, Option}
 use Rattle.gr_text.specs.Tokens.{Spot}
 use Rattle.gr_text.specs.Places.{Place, taken, known, limit_of, Filled, Takes, Leads}
-use Rattle.gr_text.specs.Scans.{Keeps, IsTold, scan_error_of}
+use Rattle.gr_text.specs.Scans.{Keeps}
 use Rattle.gr_text.specs.Stands.{Stand, Goes}
 use Rattle.gr_text.proofs.Taken.{takes-nothing, takes-then, filled-takes, filled-count}
-use Rattle.gr_io.specs.declared.SourceError.{SourceError}
-use Rattle.gr_io.specs.declared.SourceError.TheVariants.{Fault, OutOfMemory}
-use Rattle.gr_text.specs.declared.scanners.ScanError.{ScanError}
 
 -- bytes were taken, which the source counted, and no read failed
 pub record Draws (old new : Stand) : Type 0 where
@@ -55,17 +52,6 @@ pub kept : (s t : Spot) (p q : Place) (l r : Option (List ℕ)) → Leads s p l 
     → known q ≤ limit_of q → Keeps p q
 kept s t p q l r leads within =
     record { limit = leads.limit; within = within; grows = leads.grows }
-
--- a read failed, and took nothing
-pub goes-failed : (p q : Stand) (x : Place) (left : Option (List ℕ)) (count faults : ℕ) → Goes p q
-    → x ≡ q.place → left ≡ q.left → count ≡ q.count → q.faults ≤ faults
-    → Goes p (record { place = x; left = left; count = count; faults = faults })
-goes-failed p q x left count faults goes here same counted rose = record {
-  keeps = rw here goes.keeps;
-  takes = rw (here, same) goes.takes;
-  counts = rw (here, counted) goes.counts;
-  faults = omega (arith, goes.faults);
-}
 
 -- bytes that were taken before are passed
 pub goes-at : (p q : Stand) (x : Place) → Goes p q → taken x ≡ taken q.place
@@ -128,8 +114,3 @@ drawn-goes p q o draws limit grows goes = record {
   counts = omega (arith, draws.counts, goes.counts);
   faults = omega (arith, draws.calm, goes.faults);
 }
-
--- what fails in the source is no answer
-pub unanswered : (failed : SourceError) (e : ScanError) → e ≡ scan_error_of failed → IsTold e → ⊥
-unanswered Fault e is told = rw is at told
-unanswered OutOfMemory e is told = rw is at told

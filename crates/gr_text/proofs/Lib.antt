@@ -6,6 +6,7 @@ pub mod Skips
 pub mod Printing
 pub mod Taken
 pub mod Going
+pub mod Refills
 pub mod Ends
 pub mod Readings
 pub mod Capped

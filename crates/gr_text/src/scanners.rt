@@ -1,9 +1,8 @@
 // The scanner.
 ghost use Rattle.std.specs.Prelude.{◌≡◌, ◌≤◌, [], false, Ok, IsOk, IfOk, IfErr, OnOk};
-ghost use Rattle.gr_io.specs.Pieces.{Rose};
 ghost use Rattle.gr_text.specs.Places.{BeginsWord, IsPastEnd, at_start, between, no_token};
 ghost use Rattle.gr_text.specs.Scans.{Fails, Reaches, Spans, Scans, Skips, SkipFails, StandsAtEnd, EndsAgain, Advances, IsAnswer, scan_error_of};
-ghost use Rattle.gr_text.specs.Stands.{Goes, stand};
+ghost use Rattle.gr_text.specs.Stands.{Asked, Goes, Refilled, Refused, Rises, stand};
 
 use crate::holds::Held;
 use gr_io::{Source, SourceError};
@@ -98,21 +97,40 @@ impl<'a, S: Source> Scanner<'a, S> {
         Scanner { source, held }
     }
 
+    /// Takes more bytes, where none are ahead and the source has not given its end.
+    // Out of line it would cost the loops that call it registers: one instruction in twenty, counted.
+    #[inline(always)]
+    fn refill(&mut self) -> Result<(), ScanError>
+        requires ahead { self.old.held.ahead ≡ [] }
+        requires open_ { self.old.held.ended ≡ false }
+        ensures same { self.new.source.ghost_name ≡ self.old.source.ghost_name }
+        ensures ok { OnOk result (Refilled
+            (stand S.left S.taken S.faults self.old.held self.old.source.now)
+            (stand S.left S.taken S.faults self.new.held self.new.source.now)) }
+        ensures err { IfErr result (λ e. Refused e
+            (stand S.left S.taken S.faults self.old.held self.old.source.now)
+            (stand S.left S.taken S.faults self.new.held self.new.source.now)) }
+    {
+        if self.held.is_full() {
+            return Err(ScanError::TooLong {
+                line: self.held.last(),
+            });
+        }
+        match self.held.fill(self.source) {
+            Ok(_) => Ok(()),
+            Err(failed) => Err(scan_error(failed)),
+        }
+    }
+
     /// Passes the spaces that come next: false at the text's end.
     fn reach(&mut self) -> Result<bool, ScanError>
         ensures same { self.new.source.ghost_name ≡ self.old.source.ghost_name }
         ensures ok { IfOk result (λ more. Reaches more (between self.old.held)
             self.old.held (S.left self.old.source.now)
             self.new.held (S.left self.new.source.now)) }
-        ensures err { IfErr result (λ e. Fails (between self.old.held) e
-            self.old.held (S.left self.old.source.now)
-            self.new.held (S.left self.new.source.now)) }
-        ensures goes { Goes (stand S.left S.taken S.faults self.old.held self.old.source.now)
+        ensures asked { Asked (between self.old.held) result
+            (stand S.left S.taken S.faults self.old.held self.old.source.now)
             (stand S.left S.taken S.faults self.new.held self.new.source.now) }
-        ensures fault { IfErr result (λ e. e ≡ ScanError.ReadFault →
-            Rose (S.faults self.old.source.now) (S.faults self.new.source.now)) }
-        ensures calm { IsAnswer result →
-            S.faults self.new.source.now ≡ S.faults self.old.source.now }
         ensures again { IsPastEnd self.old.held → (result ≡ Ok false)
             × (self.new.held ≡ no_token self.old.held)
             × (self.new.source.now ≡ self.old.source.now) }
@@ -122,14 +140,9 @@ impl<'a, S: Source> Scanner<'a, S> {
             if self.held.is_ended() {
                 return Ok(false);
             }
-            if self.held.is_full() {
-                return Err(ScanError::TooLong {
-                    line: self.held.last(),
-                });
-            }
-            match self.held.fill(self.source) {
-                Ok(_) => {}
-                Err(failed) => return Err(scan_error(failed)),
+            match self.refill() {
+                Ok(()) => {}
+                Err(failed) => return Err(failed),
             }
             self.held.skip_spaces();
         }
@@ -144,29 +157,18 @@ impl<'a, S: Source> Scanner<'a, S> {
         ensures ok { OnOk result (Spans (between self.old.held)
             self.old.held (S.left self.old.source.now)
             self.new.held (S.left self.new.source.now)) }
-        ensures err { IfErr result (λ e. Fails (between self.old.held) e
-            self.old.held (S.left self.old.source.now)
-            self.new.held (S.left self.new.source.now)) }
-        ensures goes { Goes (stand S.left S.taken S.faults self.old.held self.old.source.now)
+        ensures asked { Asked (between self.old.held) result
+            (stand S.left S.taken S.faults self.old.held self.old.source.now)
             (stand S.left S.taken S.faults self.new.held self.new.source.now) }
-        ensures fault { IfErr result (λ e. e ≡ ScanError.ReadFault →
-            Rose (S.faults self.old.source.now) (S.faults self.new.source.now)) }
-        ensures calm { IsAnswer result →
-            S.faults self.new.source.now ≡ S.faults self.old.source.now }
     {
         self.held.grow_word();
         while self.held.is_empty() {
             if self.held.is_ended() {
                 return Ok(());
             }
-            if self.held.is_full() {
-                return Err(ScanError::TooLong {
-                    line: self.held.last(),
-                });
-            }
-            match self.held.fill(self.source) {
-                Ok(_) => {}
-                Err(failed) => return Err(scan_error(failed)),
+            match self.refill() {
+                Ok(()) => {}
+                Err(failed) => return Err(failed),
             }
             self.held.grow_word();
         }
@@ -185,8 +187,7 @@ impl<'a, S: Source> Scanner<'a, S> {
             self.new.held (S.left self.new.source.now)) }
         ensures goes { Goes (stand S.left S.taken S.faults self.old.held self.old.source.now)
             (stand S.left S.taken S.faults self.new.held self.new.source.now) }
-        ensures fault { IfErr result (λ e. e ≡ ScanError.ReadFault →
-            Rose (S.faults self.old.source.now) (S.faults self.new.source.now)) }
+        ensures fault { Rises result (S.faults self.old.source.now) (S.faults self.new.source.now) }
         ensures calm { IsAnswer result →
             S.faults self.new.source.now ≡ S.faults self.old.source.now }
         ensures end { IfOk result (λ found. StandsAtEnd found self.new.held) }
@@ -226,8 +227,7 @@ impl<'a, S: Source> Scanner<'a, S> {
             self.new.held (S.left self.new.source.now)) }
         ensures goes { Goes (stand S.left S.taken S.faults self.old.held self.old.source.now)
             (stand S.left S.taken S.faults self.new.held self.new.source.now) }
-        ensures fault { IfErr result (λ e. e ≡ ScanError.ReadFault →
-            Rose (S.faults self.old.source.now) (S.faults self.new.source.now)) }
+        ensures fault { Rises result (S.faults self.old.source.now) (S.faults self.new.source.now) }
         ensures calm { IsAnswer result →
             S.faults self.new.source.now ≡ S.faults self.old.source.now }
     {
@@ -236,14 +236,9 @@ impl<'a, S: Source> Scanner<'a, S> {
             if self.held.is_ended() {
                 return Ok(());
             }
-            if self.held.is_full() {
-                return Err(ScanError::TooLong {
-                    line: self.held.last(),
-                });
-            }
-            match self.held.fill(self.source) {
-                Ok(_) => {}
-                Err(failed) => return Err(scan_error(failed)),
+            match self.refill() {
+                Ok(()) => {}
+                Err(failed) => return Err(failed),
             }
             self.held.skip_rest();
         }

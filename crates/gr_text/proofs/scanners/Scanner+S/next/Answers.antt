@@ -31,7 +31,7 @@ returns-in-Err-word-clause-err g c =
     let q = c.reach.new.self in
     fails-after (between p) (between q.held) c.in-Err-word.failed p q.held c.word.new.self.held
     (left c.args.self.now.source.now) (left q.source.now) (left c.word.new.self.source.now)
-    c.in-Ok-true.ensures.ok.leads c.word.ensures.goes.keeps.grows c.in-Err-word.ensures.err
+    c.in-Ok-true.ensures.ok.leads c.word.ensures.asked.goes.keeps.grows c.in-Err-word.ensures.asked.err
 
 pub returns-clause-ok : goal.returns-clause-ok
 returns-clause-ok g c =
@@ -50,13 +50,13 @@ pub returns-then-is_at_line_end-clause-goes : goal.returns-then-is_at_line_end-c
 returns-then-is_at_line_end-clause-goes g c =
     let q = c.reach.new.self.held in
     rw c.end_line-line.ensures.place
-    (goes-at _ _ _ c.reach.ensures.goes
+    (goes-at _ _ _ c.reach.ensures.asked.goes
     (same-line q (c.in-Ok-true.ensures.ok.some c.in-Ok-true.field-0-test)) refl refl)
 
 pub returns-in-Err-word-clause-goes : goal.returns-in-Err-word-clause-goes
-returns-in-Err-word-clause-goes g c = goes-then _ _ _ c.reach.ensures.goes c.word.ensures.goes
+returns-in-Err-word-clause-goes g c = goes-then _ _ _ c.reach.ensures.asked.goes c.word.ensures.asked.goes
 
 pub returns-clause-goes : goal.returns-clause-goes
 returns-clause-goes g c =
     rw c.end_token-first.ensures.place
-    (goes-at _ _ _ (goes-then _ _ _ c.reach.ensures.goes c.word.ensures.goes) refl refl refl)
+    (goes-at _ _ _ (goes-then _ _ _ c.reach.ensures.asked.goes c.word.ensures.asked.goes) refl refl refl)

@@ -1,9 +1,10 @@
-use Rattle.std.proofs.Common.{◌<◌, ◌∙◌, length, refl, sym, arith}
+use Rattle.std.proofs.Common.{◌<◌, ◌∙◌, length, refl, arith}
 use Rattle.gr_text.specs.Places.{between}
 use Rattle.gr_text.proofs.Marks.{word-stops}
 use Rattle.gr_text.proofs.Leads.{leads-first, leads-on, token-some, token-stays, word-onward}
 use Rattle.gr_text.proofs.Taken.{same-word}
-use Rattle.gr_text.proofs.Going.{draws-none, draws-more, goes-drawn, goes-failed, kept, unanswered}
+use Rattle.gr_text.proofs.Going.{draws-none, draws-more}
+use Rattle.gr_text.proofs.Refills.{asked-err, asked-ok}
 use Rattle.gr_text.proofs.scanners.Scanner+S.word.Goals as goal
 
 pub loop-self-init : goal.loop-self-init
@@ -22,51 +23,32 @@ loop-self-init g c =
 
 pub loop-self-preserved : goal.loop-self-preserved
 loop-self-preserved g c =
-    let left = g.S.Source.left in
     let p = c.args.self.now.held in
     let q = c.loop-self.self.held in
     let i = c.loop-self.invariant in
-    let filled = c.in-Ok.ensures.ok in
-    let none = c.is_empty.ensures.empty c.loop-self-test.true in
-    let room = c.is_full.ensures.room c.if-is_full.false in
-    let kept : 0 < length c.fill.new.self.token = rw filled.place i.some in
+    let more = c.in-Ok.ensures.ok in
+    let kept : 0 < length c.refill.new.self.held.token = rw more.filled.place i.some in
     rw c.grow_word-in-loop-self.ensures (record {
-      same = i.same;
-      leads =
-          leads-on (between p) _ p q _ (left c.args.self.now.source.now)
-          (left c.loop-self.self.source.now) _ i.leads none
-          (sym c.is_ended.ensures.ended ∙ c.if-is_ended.false) room filled;
-      some = token-stays c.fill.new.self kept;
+      same = c.refill.ensures.same ∙ i.same;
+      leads = leads-on (between p) _ p q _ _ _ _ i.leads more.none more.open_ more.room more.filled;
+      some = token-stays c.refill.new.self.held kept;
       last = refl;
-      blank = word-stops c.fill.new.self.ahead _ refl;
+      blank = word-stops c.refill.new.self.held.ahead _ refl;
       draws =
-          draws-more _ _ _ c.fill.new.self _ _ _ _ i.draws (same-word c.fill.new.self) none filled
-          c.in-Ok.ensures.counts c.in-Ok.ensures.calm;
-      onward = rw filled.place (omega (arith, i.onward));
+          draws-more _ _ _ c.refill.new.self.held _ _ _ _ i.draws (same-word c.refill.new.self.held) more.none
+          more.filled more.counts more.calm;
+      onward = rw more.filled.place (omega (arith, i.onward));
     })
 
-pub returns-then-is_ended-clause-goes : goal.returns-then-is_ended-clause-goes
-returns-then-is_ended-clause-goes g c =
-    let i = c.loop-self.invariant in
-    goes-drawn _ _ i.draws (kept _ _ _ _ _ _ i.leads c.is_ended.ensures.within)
+pub returns-then-is_ended-clause-asked : goal.returns-then-is_ended-clause-asked
+returns-then-is_ended-clause-asked g c =
+    asked-ok _ _ _ _ _ c.loop-self.invariant.leads c.loop-self.invariant.draws c.is_ended.ensures.within
 
-pub returns-then-is_full-clause-goes : goal.returns-then-is_full-clause-goes
-returns-then-is_full-clause-goes g c =
+pub returns-in-Err-clause-asked : goal.returns-in-Err-clause-asked
+returns-in-Err-clause-asked g c =
     let i = c.loop-self.invariant in
-    goes-drawn _ _ i.draws (kept _ _ _ _ _ _ i.leads c.is_ended.ensures.within)
+    asked-err _ _ _ _ _ _ i.leads i.draws c.is_ended.ensures.within i.last c.in-Err.ensures.err
 
-pub returns-in-Err-clause-goes : goal.returns-in-Err-clause-goes
-returns-in-Err-clause-goes g c =
-    let i = c.loop-self.invariant in
-    let same = c.in-Err.ensures.err in
-    goes-failed _ _ _ _ _ _ (goes-drawn _ _ i.draws (kept _ _ _ _ _ _ i.leads c.is_ended.ensures.within))
-    same.0 same.1 c.in-Err.ensures.none c.fill.ensures.grows
-
-pub returns-in-Err-clause-calm : goal.returns-in-Err-clause-calm
-returns-in-Err-clause-calm g c =
-    λ answer. absurd (unanswered c.in-Err.failed _ c.scan_error.ensures answer)
-
-pub returns-clause-goes : goal.returns-clause-goes
-returns-clause-goes g c =
-    let i = c.loop-self.invariant in
-    goes-drawn _ _ i.draws (kept _ _ _ _ _ _ i.leads c.is_empty.ensures.within)
+pub returns-clause-asked : goal.returns-clause-asked
+returns-clause-asked g c =
+    asked-ok _ _ _ _ _ c.loop-self.invariant.leads c.loop-self.invariant.draws c.is_empty.ensures.within

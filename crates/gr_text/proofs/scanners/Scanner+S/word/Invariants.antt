@@ -1,4 +1,4 @@
-use Rattle.std.proofs.Common.{◌≡◌, ◌≤◌, ◌<◌, ◌+◌, length, if◌then◌else◌}
+use Rattle.std.proofs.Common.{◌≡◌, ◌<◌, ◌+◌, length, if◌then◌else◌}
 use Rattle.gr_text.specs.Places.{BeginsBlank, Leads, between, inside}
 use Rattle.gr_text.specs.Stands.{stand}
 use Rattle.gr_text.proofs.Going.{Draws}
