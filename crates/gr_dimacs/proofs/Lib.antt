@@ -4,7 +4,6 @@ pub mod Unique
 pub mod Complete
 pub mod Header
 pub mod Prefix
-pub mod Words
 pub mod Staged
 pub mod Whole
 pub mod Told

@@ -134,23 +134,35 @@ told-fails errors.OutOfMemory p q a rose = tt
 taken-known : (q : Place) → q.ended ≡ false → known q ≡ taken q
 taken-known q open_ = rw open_ (omega arith)
 
-pub told-skip-fails : (e : ScanError) (line : ℕ) (first : Bool) (word : List ℕ) (p q o : Stand) →
-    known q.place ≤ known o.place → (first && begins 99 word) ≡ true →
-    Gives (between p.place) (Word line first word) p.place p.left q.place q.left →
+-- the token that was passed from one stand to another begins a comment
+pub record CommentBegun (p q : Stand) : Type 0 where
+  pub line : ℕ
+  pub first : Bool
+  pub comment : (first && begins 99 q.place.token) ≡ true
+  pub gives : Gives (between p.place) (Word line first q.place.token) p.place p.left q.place q.left
+
+pub comment-begun : (line : ℕ) (first b : Bool) (t : List ℕ) (p q : Stand) → first ≡ true →
+    b ≡ begins 99 t → b ≡ true → t ≡ q.place.token →
+    Gives (between p.place) (Word line first q.place.token) p.place p.left q.place q.left → CommentBegun p q
+comment-begun line first b t p q f e h same gives =
+    let c : begins 99 q.place.token ≡ true = rw (← same) (sym e ∙ h) in
+    record { line = line; first = first; comment = rw (f, c) refl; gives = gives }
+
+pub told-skip-fails : (e : ScanError) (p q o : Stand) → known q.place ≤ known o.place → CommentBegun p q →
     SkipFails e q.place q.left o.place o.left → RoseIf e p o → FindFails e p o
-told-skip-fails (errors.TooLong at) line first word p q o grows comment a b rose = (
-  told-comment line first word p q (taken o.place) (omega (arith, taken-known o.place b.2))
-      comment a ∙ ap (option_map (read_of false)) b.0 ∙ option_map-twice (read_of false) _ o.left,
+told-skip-fails (errors.TooLong at) p q o grows a b rose = (
+  told-comment a.line a.first q.place.token p q (taken o.place) (omega (arith, taken-known o.place b.2))
+      a.comment a.gives ∙ ap (option_map (read_of false)) b.0 ∙ option_map-twice (read_of false) _ o.left,
   b.1,
   b.2,
 )
-told-skip-fails errors.ReadFault line first word p q o grows comment a b rose = (
-  told-comment line first word p q (taken o.place) (omega (arith, taken-known o.place b.1))
-      comment a ∙ ap (option_map (read_of false)) b.0 ∙ option_map-twice (read_of false) _ o.left,
+told-skip-fails errors.ReadFault p q o grows a b rose = (
+  told-comment a.line a.first q.place.token p q (taken o.place) (omega (arith, taken-known o.place b.1))
+      a.comment a.gives ∙ ap (option_map (read_of false)) b.0 ∙ option_map-twice (read_of false) _ o.left,
   b.1,
   rose refl,
 )
-told-skip-fails errors.OutOfMemory line first word p q o grows comment a b rose = tt
+told-skip-fails errors.OutOfMemory p q o grows a b rose = tt
 
 -- from one stand to another the same is told
 pub record SameTold (p q : Stand) : Type 0 where
@@ -208,23 +220,17 @@ onward-line line p q n a goes calm passed gives = record {
 }
 
 -- a comment was passed
-pub onward-comment : (line : ℕ) (first : Bool) (word : List ℕ) (p q n o : Stand) → Onward p q →
-    Goes q n → n.faults ≡ q.faults → Goes n o → o.faults ≡ n.faults →
-    q.place.passed ≤ o.place.passed → (first && begins 99 word) ≡ true →
-    Gives (between q.place) (Word line first word) q.place q.left n.place n.left →
+pub onward-comment : (p q n o : Stand) → Onward p q → Goes q n → n.faults ≡ q.faults → Goes n o →
+    o.faults ≡ n.faults → q.place.passed ≤ o.place.passed → CommentBegun q n →
     Skips n.place n.left o.place o.left → Onward p o
-onward-comment line first word p q n o a goes calm skips still passed comment gives passes = record {
+onward-comment p q n o a goes calm skips still passed begun passes = record {
   told = record {
     same = λ limit h. a.told.same limit (omega (arith, goes.keeps.grows, skips.keeps.grows))
-        ∙ told-skipped line first word q n o limit skips.keeps.grows h comment gives passes;
+        ∙ told-skipped begun.line begun.first n.place.token q n o limit skips.keeps.grows h begun.comment begun.gives
+        passes;
     grows = omega (arith, a.told.grows, goes.keeps.grows, skips.keeps.grows);
   };
   limit = skips.keeps.limit ∙ goes.keeps.limit ∙ a.limit;
   draws = drawn p n o (drawn p q n a.draws goes calm) skips still;
   passed = omega (arith, a.passed, passed);
 }
-
-pub comment-is : (first b : Bool) (t w : List ℕ) → first ≡ true → b ≡ begins 99 t → b ≡ true →
-    t ≡ w → (first && begins 99 w) ≡ true
-comment-is first b t w f e h same = let c : begins 99 w ≡ true =
-    rw (← same) (sym e ∙ h) in rw (f, c) refl

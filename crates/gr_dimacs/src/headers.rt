@@ -2,7 +2,6 @@
 ghost use Rattle.std.specs.Prelude.{◌≡◌, ◌≤◌, ◌∷◌, []};
 ghost use Rattle.gr_text.specs.Places.{known, limit_of};
 ghost use Rattle.gr_dimacs.specs.Faults.{same_word};
-ghost use Rattle.gr_dimacs.specs.Grammar.{p_word, cnf_word};
 ghost use Rattle.gr_dimacs.specs.Heads.{CountToken, HeadToken, WordToken};
 ghost use Rattle.gr_dimacs.specs.Reads.{IsLawful, IsSettled, IsTooLong};
 ghost use Rattle.gr_text.specs.Stands.{Goes, stand};
@@ -35,11 +34,11 @@ pub fn read_header<S: Source>(
         S.faults scanner.new.source.now ≡ S.faults scanner.old.source.now }
     ensures full { IsTooLong result → scanner.new.held.spare ≡ 0 }
 {
-    match header_p(scanner) {
+    match header_word(scanner, b"p", FaultKind::NoHeader) {
         Ok(()) => {}
         Err(failed) => return Err(failed),
     }
-    match header_cnf(scanner) {
+    match header_word(scanner, b"cnf", FaultKind::BadHeader) {
         Ok(()) => {}
         Err(failed) => return Err(failed),
     }
@@ -54,56 +53,32 @@ pub fn read_header<S: Source>(
     Ok(Builder::new(alloc, vars as u32, count, limits.literals))
 }
 
-/// The word `p`.
-fn header_p<S: Source>(scanner: &mut Scanner<'_, S>) -> Result<(), ReadError>
+/// A word that has to stand here. Where it does not, the given fault.
+fn header_word<S: Source>(
+    scanner: &mut Scanner<'_, S>,
+    word: &[u8],
+    wrong: FaultKind,
+) -> Result<(), ReadError>
+    requires { wrong ≡ FaultKind.TooLong → ⊥ }
     ensures same { scanner.new.source.ghost_name ≡ scanner.old.source.ghost_name }
     ensures goes { Goes
         (stand S.left S.taken S.faults scanner.old.held scanner.old.source.now)
         (stand S.left S.taken S.faults scanner.new.held scanner.new.source.now) }
-    ensures answer { WordToken p_word FaultKind.NoHeader result
+    ensures answer { WordToken word.now wrong result
         (stand S.left S.taken S.faults scanner.old.held scanner.old.source.now)
         (stand S.left S.taken S.faults scanner.new.held scanner.new.source.now) }
     ensures calm { IsSettled result →
         S.faults scanner.new.source.now ≡ S.faults scanner.old.source.now }
     ensures full { IsTooLong result → scanner.new.held.spare ≡ 0 }
 {
-    let line = match header_token(scanner, FaultKind::NoHeader) {
+    let line = match header_token(scanner, wrong) {
         Ok(line) => line,
         Err(failed) => return Err(failed),
     };
-    if is_p(scanner.token()) {
+    if is_word(scanner.token(), word) {
         return Ok(());
     }
-    Err(ReadError::Grammar(GrammarFault {
-        kind: FaultKind::NoHeader,
-        line,
-    }))
-}
-
-/// The word `cnf`.
-fn header_cnf<S: Source>(scanner: &mut Scanner<'_, S>) -> Result<(), ReadError>
-    ensures same { scanner.new.source.ghost_name ≡ scanner.old.source.ghost_name }
-    ensures goes { Goes
-        (stand S.left S.taken S.faults scanner.old.held scanner.old.source.now)
-        (stand S.left S.taken S.faults scanner.new.held scanner.new.source.now) }
-    ensures answer { WordToken cnf_word FaultKind.BadHeader result
-        (stand S.left S.taken S.faults scanner.old.held scanner.old.source.now)
-        (stand S.left S.taken S.faults scanner.new.held scanner.new.source.now) }
-    ensures calm { IsSettled result →
-        S.faults scanner.new.source.now ≡ S.faults scanner.old.source.now }
-    ensures full { IsTooLong result → scanner.new.held.spare ≡ 0 }
-{
-    let line = match header_token(scanner, FaultKind::BadHeader) {
-        Ok(line) => line,
-        Err(failed) => return Err(failed),
-    };
-    if is_cnf(scanner.token()) {
-        return Ok(());
-    }
-    Err(ReadError::Grammar(GrammarFault {
-        kind: FaultKind::BadHeader,
-        line,
-    }))
+    Err(ReadError::Grammar(GrammarFault { kind: wrong, line }))
 }
 
 /// A count up to the limit.
@@ -170,24 +145,9 @@ fn header_token<S: Source>(
     }
 }
 
-/// Whether the token is `p`.
-#[tactic(auto, using(crate::proofs::Words::same_word_length))]
-fn is_p(token: &[u8]) -> bool
-    ensures { result ≡ same_word token.now p_word }
+/// Whether two words are one.
+fn is_word(token: &[u8], word: &[u8]) -> bool
+    ensures { result ≡ same_word token.now word.now }
 {
-    match token {
-        [a] => *a == b'p',
-        _ => false,
-    }
-}
-
-/// Whether the token is `cnf`.
-#[tactic(auto, using(crate::proofs::Words::same_word_length))]
-fn is_cnf(token: &[u8]) -> bool
-    ensures { result ≡ same_word token.now cnf_word }
-{
-    match token {
-        [a, b, c] => *a == b'c' && *b == b'n' && *c == b'f',
-        _ => false,
-    }
+    token == word
 }
