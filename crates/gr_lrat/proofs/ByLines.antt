@@ -1,13 +1,13 @@
 -- a log is read line by line
-use Rattle.std.proofs.Common.{◌≡◌, ◌∙◌, ℕ, zero, suc, ◌+◌, ◌-◌, ◌<◌, Bool, true, false, ◌&&◌, List, [], ◌∷◌, ◌++◌, length, map, refl, sym, ap, arith, append_assoc, All, inl, inr}
+use Rattle.std.proofs.Common.{◌≡◌, ◌∙◌, ℕ, zero, suc, ◌+◌, ◌-◌, ◌<◌, Bool, true, false, ◌&&◌, List, [], ◌∷◌, ◌++◌, length, refl, sym, ap, arith, append_assoc, inl, inr}
 use Rattle.std.specs.List.{AllByRecursion}
 use Rattle.std.proofs.lemmas.List.{append-nil}
 use Rattle.std.proofs.lemmas.List.Elements.{recursion_from_All}
-use Rattle.gr_text.specs.Tokens.{Mark, Word, Break, Stop, Cut, is_space, is_line_feed, is_empty, ended, marks, front}
+use Rattle.gr_text.specs.Tokens.{Mark, Break, Stop, is_space, is_line_feed, is_empty, ended, marks, front}
 use Rattle.gr_text.proofs.Words.{spot}
 use Rattle.gr_lrat.specs.Lines.{Spelling, Nothing, Spelled, Misspelt, HasNegativeHint, spelling, line_tokens, line_read}
 use Rattle.gr_lrat.specs.Logs.{LogRead, AtEnd, ends, with_line, log_from, log_read}
-use Rattle.gr_lrat.specs.Laws.{read_below, ReadsByLines, LogsAreReadByLines}
+use Rattle.gr_lrat.specs.Laws.{read_below, LogsAreReadByLines}
 use Rattle.gr_lrat.proofs.Counted.{bool_cases}
 
 -- a line that stands one line lower has a number that is greater by one

@@ -10,5 +10,6 @@ pub mod Cutting
 pub mod Written
 pub mod Digits
 pub mod RoundTrip
+pub mod PartRead
 pub mod GoingOn
 pub mod ByLines

@@ -22,6 +22,11 @@ pub err-then : {T E : Type 0} (p q : List ℕ) (u v w : Option (List ℕ)) (h i 
 err-then p q u v w h i (Ok x) a b = tt
 err-then p q u v w h i (Err e) a b = prints_then_part p q u v w h i a b
 
+-- what holds at all holds where the answer is an error
+pub on-err : {T E P : Type 0} (r : Result T E) → P → OnErr r P
+on-err (Ok x) holds = tt
+on-err (Err e) holds = holds
+
 -- a part of what was due is a part where more was due behind it
 pub part-longer : (p q h : List ℕ) (u v : Option (List ℕ)) → GainsPart (h ++ p) u v →
     GainsPart (h ++ (p ++ q)) u v

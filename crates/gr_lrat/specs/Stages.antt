@@ -2,7 +2,9 @@
 use Rattle.std.specs.Prelude.{◌≡◌, ℕ, ◌≤◌, ◌<◌, Bool, false, if◌then◌else◌, List, [], ◌∷◌, Option, Result, Ok, Err}
 use Rattle.std.specs.Option.{option_map}
 use Rattle.gr_text.specs.Tokens.{Mark, Word, Break, Stop, Cut}
+use Rattle.gr_io.specs.Pieces.{Rose}
 use Rattle.gr_text.specs.Places.{Place, known, taken, coming}
+use Rattle.gr_text.specs.Stands.{Stand, Goes}
 use Rattle.gr_text.specs.declared.scanners.ScanError.{ScanError}
 use Rattle.gr_text.specs.declared.scanners.ScanError.TheVariants as scans
 use Rattle.gr_lrat.specs.Lines.{Spelling, Nothing, Spelled, Misspelt, HasNegativeHint}
@@ -79,3 +81,19 @@ PassesBytes Nothing p q = p.passed ≤ q.passed
 PassesBytes (Spelled line) p q = p.passed < q.passed
 PassesBytes Misspelt p q = p.passed < q.passed
 PassesBytes HasNegativeHint p q = p.passed < q.passed
+
+-- what a failure says of the count of failed reads: it rose where a failed read is told, and stayed where the text is
+-- too long
+abbrev pub FailsAt : ScanError → ℕ → ℕ → Type 0
+FailsAt (scans.TooLong line) before now = now ≡ before
+FailsAt scans.ReadFault before now = Rose before now
+FailsAt scans.OutOfMemory before now = Unit {0}
+
+-- what an answer says of that count: it stayed where something was read
+abbrev pub CountsFaults : {T : Type 0} → Result T ScanError → ℕ → ℕ → Type 0
+CountsFaults (Ok x) before now = now ≡ before
+CountsFaults (Err failed) before now = FailsAt failed before now
+
+-- reading went on, and the count of failed reads is as the answer says
+abbrev pub GoesFor : {T : Type 0} → Result T ScanError → Stand → Stand → Type 0
+GoesFor result old new = Goes old new × CountsFaults result old.faults new.faults

@@ -1,18 +1,16 @@
 // A line of a log that adds a clause, read to its end.
-ghost use Rattle.std.specs.Prelude.{◌≡◌, ◌≤◌, ◌<◌, ℕ, [], ◌∷◌, false, List, IfOk, IfErr};
+ghost use Rattle.std.specs.Prelude.{◌≡◌, ◌≤◌, ◌<◌, ℕ, [], ◌∷◌, false, List, IfOk};
 ghost use Rattle.std.specs.Option.{option_map_or};
-ghost use Rattle.gr_io.specs.Pieces.{Rose};
 ghost use Rattle.gr_text.specs.Places.{known, limit_of};
-ghost use Rattle.gr_text.specs.Scans.{IsAnswer};
-ghost use Rattle.gr_text.specs.Stands.{Goes, stand};
+ghost use Rattle.gr_text.specs.Stands.{stand};
 ghost use Rattle.gr_lrat.specs.Lines.{Misspelt, addition_with, addition_from, ids_from};
-ghost use Rattle.gr_lrat.specs.Stages.{Passes};
+ghost use Rattle.gr_lrat.specs.Stages.{GoesFor, Passes};
 ghost use Rattle.gr_lrat.specs.Statements.{TellsStatement, list_of, spelling_of};
 
 use crate::lists::{ReadList, read_list};
 use crate::numerals;
 use crate::pieces::{Piece, next_piece};
-use crate::statements::{Spelt, Statement, misspelt};
+use crate::statements::{Spelt, Statement, pass_as};
 use gr_io::Source;
 use gr_logic::{Clause, Line};
 use gr_text::{ScanError, Scanner};
@@ -32,16 +30,12 @@ pub fn read_addition<S: Source>(
         scanner.new.held (S.left scanner.new.source.now) }
     ensures onward { IfOk result (λ statement. Passes statement.end scanner.old.held
         scanner.new.held) }
-    ensures goes { Goes (stand S.left S.taken S.faults scanner.old.held scanner.old.source.now)
+    ensures goes { GoesFor result (stand S.left S.taken S.faults scanner.old.held scanner.old.source.now)
         (stand S.left S.taken S.faults scanner.new.held scanner.new.source.now) }
-    ensures fault { IfErr result (λ e. e ≡ ScanError.ReadFault →
-        Rose (S.faults scanner.old.source.now) (S.faults scanner.new.source.now)) }
-    ensures calm { IsAnswer result →
-        S.faults scanner.new.source.now ≡ S.faults scanner.old.source.now }
 {
     match id {
         Some(id) => read_literals(alloc, scanner, id),
-        None => misspelt(scanner),
+        None => pass_as(scanner, Spelt::Misspelt),
     }
 }
 
@@ -58,12 +52,8 @@ fn read_literals<S: Source>(
         scanner.new.held (S.left scanner.new.source.now) }
     ensures onward { IfOk result (λ statement. Passes statement.end scanner.old.held
         scanner.new.held) }
-    ensures goes { Goes (stand S.left S.taken S.faults scanner.old.held scanner.old.source.now)
+    ensures goes { GoesFor result (stand S.left S.taken S.faults scanner.old.held scanner.old.source.now)
         (stand S.left S.taken S.faults scanner.new.held scanner.new.source.now) }
-    ensures fault { IfErr result (λ e. e ≡ ScanError.ReadFault →
-        Rose (S.faults scanner.old.source.now) (S.faults scanner.new.source.now)) }
-    ensures calm { IsAnswer result →
-        S.faults scanner.new.source.now ≡ S.faults scanner.old.source.now }
 {
     let mut clause = Clause::new(alloc);
     'tokens: loop {
@@ -76,7 +66,7 @@ fn read_literals<S: Source>(
                     return Err(ScanError::OutOfMemory);
                 }
             }
-            None => return misspelt(scanner),
+            None => return pass_as(scanner, Spelt::Misspelt),
         }
         match next_piece(scanner) {
             Ok(Piece::Token) => {}
@@ -102,12 +92,8 @@ fn read_hints<S: Source>(
         scanner.new.held (S.left scanner.new.source.now) }
     ensures onward { IfOk result (λ statement. Passes statement.end scanner.old.held
         scanner.new.held) }
-    ensures goes { Goes (stand S.left S.taken S.faults scanner.old.held scanner.old.source.now)
+    ensures goes { GoesFor result (stand S.left S.taken S.faults scanner.old.held scanner.old.source.now)
         (stand S.left S.taken S.faults scanner.new.held scanner.new.source.now) }
-    ensures fault { IfErr result (λ e. e ≡ ScanError.ReadFault →
-        Rose (S.faults scanner.old.source.now) (S.faults scanner.new.source.now)) }
-    ensures calm { IsAnswer result →
-        S.faults scanner.new.source.now ≡ S.faults scanner.old.source.now }
 {
     match read_list(alloc, scanner) {
         Ok(listed) => Ok(Statement {

@@ -1,10 +1,8 @@
 // Lists of ids in a line of a log.
-ghost use Rattle.std.specs.Prelude.{◌≡◌, ◌≤◌, ◌<◌, ℕ, [], false, List, IfOk, IfErr};
-ghost use Rattle.gr_io.specs.Pieces.{Rose};
-ghost use Rattle.gr_text.specs.Scans.{IsAnswer};
-ghost use Rattle.gr_text.specs.Stands.{Goes, stand};
+ghost use Rattle.std.specs.Prelude.{◌≡◌, ◌≤◌, ◌<◌, ℕ, [], false, List, IfOk};
+ghost use Rattle.gr_text.specs.Stands.{stand};
 ghost use Rattle.gr_lrat.specs.Lines.{Spelling, IdList, NoList, closed_list, ids_from};
-ghost use Rattle.gr_lrat.specs.Stages.{Passes};
+ghost use Rattle.gr_lrat.specs.Stages.{GoesFor, Passes};
 ghost use Rattle.gr_lrat.specs.Statements.{TellsList, list_of};
 
 use crate::numerals::{self, ListToken};
@@ -39,12 +37,8 @@ pub fn read_list<S: Source>(
         scanner.old.held (S.left scanner.old.source.now)
         scanner.new.held (S.left scanner.new.source.now) }
     ensures onward { IfOk result (λ list. Passes list.end scanner.old.held scanner.new.held) }
-    ensures goes { Goes (stand S.left S.taken S.faults scanner.old.held scanner.old.source.now)
+    ensures goes { GoesFor result (stand S.left S.taken S.faults scanner.old.held scanner.old.source.now)
         (stand S.left S.taken S.faults scanner.new.held scanner.new.source.now) }
-    ensures fault { IfErr result (λ e. e ≡ ScanError.ReadFault →
-        Rose (S.faults scanner.old.source.now) (S.faults scanner.new.source.now)) }
-    ensures calm { IsAnswer result →
-        S.faults scanner.new.source.now ≡ S.faults scanner.old.source.now }
 {
     let mut ids = Ids::new(alloc);
     let mut negative = false;
@@ -83,12 +77,8 @@ fn close_list<S: Source>(
         scanner.old.held (S.left scanner.old.source.now)
         scanner.new.held (S.left scanner.new.source.now) }
     ensures onward { IfOk result (λ list. Passes list.end scanner.old.held scanner.new.held) }
-    ensures goes { Goes (stand S.left S.taken S.faults scanner.old.held scanner.old.source.now)
+    ensures goes { GoesFor result (stand S.left S.taken S.faults scanner.old.held scanner.old.source.now)
         (stand S.left S.taken S.faults scanner.new.held scanner.new.source.now) }
-    ensures fault { IfErr result (λ e. e ≡ ScanError.ReadFault →
-        Rose (S.faults scanner.old.source.now) (S.faults scanner.new.source.now)) }
-    ensures calm { IsAnswer result →
-        S.faults scanner.new.source.now ≡ S.faults scanner.old.source.now }
 {
     match next_piece(scanner) {
         Ok(Piece::Token) => no_list(scanner),
@@ -118,12 +108,8 @@ fn no_list<S: Source>(scanner: &mut Scanner<'_, S>) -> Result<Listed, ScanError>
         scanner.old.held (S.left scanner.old.source.now)
         scanner.new.held (S.left scanner.new.source.now) }
     ensures onward { IfOk result (λ list. Passes list.end scanner.old.held scanner.new.held) }
-    ensures goes { Goes (stand S.left S.taken S.faults scanner.old.held scanner.old.source.now)
+    ensures goes { GoesFor result (stand S.left S.taken S.faults scanner.old.held scanner.old.source.now)
         (stand S.left S.taken S.faults scanner.new.held scanner.new.source.now) }
-    ensures fault { IfErr result (λ e. e ≡ ScanError.ReadFault →
-        Rose (S.faults scanner.old.source.now) (S.faults scanner.new.source.now)) }
-    ensures calm { IsAnswer result →
-        S.faults scanner.new.source.now ≡ S.faults scanner.old.source.now }
 {
     match skip_rest(scanner) {
         Ok(end) => Ok(Listed {

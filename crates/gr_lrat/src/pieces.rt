@@ -1,10 +1,8 @@
 // What comes next in a line of a log.
 ghost use Rattle.std.specs.Prelude.{◌≡◌, ◌≤◌, ◌<◌, ℕ, List, IfOk, IfErr};
-ghost use Rattle.gr_io.specs.Pieces.{Rose};
-ghost use Rattle.gr_text.specs.Scans.{IsAnswer};
-ghost use Rattle.gr_text.specs.Stands.{Goes, stand};
+ghost use Rattle.gr_text.specs.Stands.{stand};
 ghost use Rattle.gr_lrat.specs.Lines.{Spelling};
-ghost use Rattle.gr_lrat.specs.Stages.{Comes, FailsInLine, Passes, PassesPiece, Tells};
+ghost use Rattle.gr_lrat.specs.Stages.{Comes, FailsInLine, GoesFor, Passes, PassesPiece, Tells};
 
 use gr_io::Source;
 use gr_text::{ScanError, Scanned, Scanner};
@@ -33,12 +31,8 @@ pub fn next_piece<S: Source>(scanner: &mut Scanner<'_, S>) -> Result<Piece, Scan
     ensures err { IfErr result (λ e. (said : List (List ℕ) → Spelling) → FailsInLine said e
         scanner.old.held (S.left scanner.old.source.now)
         scanner.new.held (S.left scanner.new.source.now)) }
-    ensures goes { Goes (stand S.left S.taken S.faults scanner.old.held scanner.old.source.now)
+    ensures goes { GoesFor result (stand S.left S.taken S.faults scanner.old.held scanner.old.source.now)
         (stand S.left S.taken S.faults scanner.new.held scanner.new.source.now) }
-    ensures fault { IfErr result (λ e. e ≡ ScanError.ReadFault →
-        Rose (S.faults scanner.old.source.now) (S.faults scanner.new.source.now)) }
-    ensures calm { IsAnswer result →
-        S.faults scanner.new.source.now ≡ S.faults scanner.old.source.now }
 {
     match scanner.next() {
         Ok(Scanned::Token { .. }) => Ok(Piece::Token),
@@ -55,12 +49,8 @@ pub fn skip_rest<S: Source>(scanner: &mut Scanner<'_, S>) -> Result<Ending, Scan
         scanner.old.held (S.left scanner.old.source.now)
         scanner.new.held (S.left scanner.new.source.now) }
     ensures onward { IfOk result (λ end. Passes end scanner.old.held scanner.new.held) }
-    ensures goes { Goes (stand S.left S.taken S.faults scanner.old.held scanner.old.source.now)
+    ensures goes { GoesFor result (stand S.left S.taken S.faults scanner.old.held scanner.old.source.now)
         (stand S.left S.taken S.faults scanner.new.held scanner.new.source.now) }
-    ensures fault { IfErr result (λ e. e ≡ ScanError.ReadFault →
-        Rose (S.faults scanner.old.source.now) (S.faults scanner.new.source.now)) }
-    ensures calm { IsAnswer result →
-        S.faults scanner.new.source.now ≡ S.faults scanner.old.source.now }
 {
     match scanner.skip_line() {
         Ok(()) => {}

@@ -1,10 +1,8 @@
 // A line of a log, read to its end.
-ghost use Rattle.std.specs.Prelude.{◌≡◌, ◌≤◌, ◌<◌, ℕ, [], ◌∷◌, false, if◌then◌else◌, List, IfOk, IfErr};
-ghost use Rattle.gr_io.specs.Pieces.{Rose};
-ghost use Rattle.gr_text.specs.Scans.{IsAnswer};
-ghost use Rattle.gr_text.specs.Stands.{Goes, stand};
-ghost use Rattle.gr_lrat.specs.Lines.{Nothing, Misspelt, deletion_with, ids_from, statement_of, spelling};
-ghost use Rattle.gr_lrat.specs.Stages.{Passes, PassesBytes};
+ghost use Rattle.std.specs.Prelude.{◌≡◌, ◌≤◌, ◌<◌, ℕ, [], ◌∷◌, false, if◌then◌else◌, List, IfOk};
+ghost use Rattle.gr_text.specs.Stands.{stand};
+ghost use Rattle.gr_lrat.specs.Lines.{Misspelt, deletion_with, ids_from, statement_of, spelling};
+ghost use Rattle.gr_lrat.specs.Stages.{GoesFor, Passes, PassesBytes};
 ghost use Rattle.gr_lrat.specs.Statements.{TellsStatement, list_of, spelling_of};
 
 use crate::additions::read_addition;
@@ -46,12 +44,8 @@ pub fn read_statement<S: Source>(
         scanner.old.held scanner.new.held) }
     ensures onward { IfOk result (λ statement. Passes statement.end scanner.old.held
         scanner.new.held) }
-    ensures goes { Goes (stand S.left S.taken S.faults scanner.old.held scanner.old.source.now)
+    ensures goes { GoesFor result (stand S.left S.taken S.faults scanner.old.held scanner.old.source.now)
         (stand S.left S.taken S.faults scanner.new.held scanner.new.source.now) }
-    ensures fault { IfErr result (λ e. e ≡ ScanError.ReadFault →
-        Rose (S.faults scanner.old.source.now) (S.faults scanner.new.source.now)) }
-    ensures calm { IsAnswer result →
-        S.faults scanner.new.source.now ≡ S.faults scanner.old.source.now }
 {
     match next_piece(scanner) {
         Ok(Piece::Token) => {}
@@ -62,55 +56,27 @@ pub fn read_statement<S: Source>(
         Err(failed) => return Err(failed),
     }
     if numerals::begins_comment(scanner.token()) {
-        return pass_comment(scanner);
+        return pass_as(scanner, Spelt::Nothing);
     }
     read_tokens(alloc, scanner)
 }
 
-/// Passes a comment.
-fn pass_comment<S: Source>(scanner: &mut Scanner<'_, S>) -> Result<Statement, ScanError>
+/// Passes the rest of a line that spells this, whatever its tokens are.
+pub fn pass_as<S: Source>(
+    scanner: &mut Scanner<'_, S>,
+    spelt: Spelt,
+) -> Result<Statement, ScanError>
     ensures same { scanner.new.source.ghost_name ≡ scanner.old.source.ghost_name }
-    ensures tells { TellsStatement (λ ws. Nothing) result
+    ensures tells { TellsStatement (λ ws. spelling_of spelt) result
         scanner.old.held (S.left scanner.old.source.now)
         scanner.new.held (S.left scanner.new.source.now) }
     ensures onward { IfOk result (λ statement. Passes statement.end scanner.old.held
         scanner.new.held) }
-    ensures goes { Goes (stand S.left S.taken S.faults scanner.old.held scanner.old.source.now)
+    ensures goes { GoesFor result (stand S.left S.taken S.faults scanner.old.held scanner.old.source.now)
         (stand S.left S.taken S.faults scanner.new.held scanner.new.source.now) }
-    ensures fault { IfErr result (λ e. e ≡ ScanError.ReadFault →
-        Rose (S.faults scanner.old.source.now) (S.faults scanner.new.source.now)) }
-    ensures calm { IsAnswer result →
-        S.faults scanner.new.source.now ≡ S.faults scanner.old.source.now }
 {
     match skip_rest(scanner) {
-        Ok(end) => Ok(Statement {
-            spelt: Spelt::Nothing,
-            end,
-        }),
-        Err(failed) => Err(failed),
-    }
-}
-
-/// Passes the rest of a line that is misspelt.
-pub fn misspelt<S: Source>(scanner: &mut Scanner<'_, S>) -> Result<Statement, ScanError>
-    ensures same { scanner.new.source.ghost_name ≡ scanner.old.source.ghost_name }
-    ensures tells { TellsStatement (λ ws. Misspelt) result
-        scanner.old.held (S.left scanner.old.source.now)
-        scanner.new.held (S.left scanner.new.source.now) }
-    ensures onward { IfOk result (λ statement. Passes statement.end scanner.old.held
-        scanner.new.held) }
-    ensures goes { Goes (stand S.left S.taken S.faults scanner.old.held scanner.old.source.now)
-        (stand S.left S.taken S.faults scanner.new.held scanner.new.source.now) }
-    ensures fault { IfErr result (λ e. e ≡ ScanError.ReadFault →
-        Rose (S.faults scanner.old.source.now) (S.faults scanner.new.source.now)) }
-    ensures calm { IsAnswer result →
-        S.faults scanner.new.source.now ≡ S.faults scanner.old.source.now }
-{
-    match skip_rest(scanner) {
-        Ok(end) => Ok(Statement {
-            spelt: Spelt::Misspelt,
-            end,
-        }),
+        Ok(end) => Ok(Statement { spelt, end }),
         Err(failed) => Err(failed),
     }
 }
@@ -126,12 +92,8 @@ fn read_tokens<S: Source>(
         scanner.new.held (S.left scanner.new.source.now) }
     ensures onward { IfOk result (λ statement. Passes statement.end scanner.old.held
         scanner.new.held) }
-    ensures goes { Goes (stand S.left S.taken S.faults scanner.old.held scanner.old.source.now)
+    ensures goes { GoesFor result (stand S.left S.taken S.faults scanner.old.held scanner.old.source.now)
         (stand S.left S.taken S.faults scanner.new.held scanner.new.source.now) }
-    ensures fault { IfErr result (λ e. e ≡ ScanError.ReadFault →
-        Rose (S.faults scanner.old.source.now) (S.faults scanner.new.source.now)) }
-    ensures calm { IsAnswer result →
-        S.faults scanner.new.source.now ≡ S.faults scanner.old.source.now }
 {
     let first = count(scanner.token());
     match next_piece(scanner) {
@@ -162,15 +124,11 @@ fn read_deletion<S: Source>(
         scanner.new.held (S.left scanner.new.source.now) }
     ensures onward { IfOk result (λ statement. Passes statement.end scanner.old.held
         scanner.new.held) }
-    ensures goes { Goes (stand S.left S.taken S.faults scanner.old.held scanner.old.source.now)
+    ensures goes { GoesFor result (stand S.left S.taken S.faults scanner.old.held scanner.old.source.now)
         (stand S.left S.taken S.faults scanner.new.held scanner.new.source.now) }
-    ensures fault { IfErr result (λ e. e ≡ ScanError.ReadFault →
-        Rose (S.faults scanner.old.source.now) (S.faults scanner.new.source.now)) }
-    ensures calm { IsAnswer result →
-        S.faults scanner.new.source.now ≡ S.faults scanner.old.source.now }
 {
     if !numbered {
-        return misspelt(scanner);
+        return pass_as(scanner, Spelt::Misspelt);
     }
     match read_list(alloc, scanner) {
         Ok(listed) => Ok(Statement {

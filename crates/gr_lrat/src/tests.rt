@@ -219,31 +219,14 @@ fn a_cut_log_is_read_up_to_the_cut(rt: HostRuntime) -> Result<(), Fail> {
     Ok(())
 }
 
-/// Logs, how many bytes of them may be taken, and what is told of them.
-const LIMITS: [(&[u8], u64, &[u8]); 9] = [
-    // A line counts once its end was taken.
+/// Logs, how many bytes of them may be taken, and what is told of them: a line counts once its end was taken.
+const LIMITS: [(&[u8], u64, &[u8]); 6] = [
     (b"4 0 0\nx\n", 0, b"1 is too long\n"),
     (b"4 0 0\nx\n", 5, b"1 is too long\n"),
     (b"4 0 0\nx\n", 6, b"1 adds 4: by\n1 is too long\n"),
     (b"4 0 0\nx\n", 7, b"1 adds 4: by\n2 is too long\n"),
     (b"4 0 0\nx\n", 8, b"1 adds 4: by\n2 is bad\n"),
     (b"4 0 0\nx\n", 9, b"1 adds 4: by\n2 is bad\n"),
-    // Any number is a limit.
-    (
-        b"4 1 0 2 0\n\n5 d 4 0\n",
-        u64::MAX,
-        b"1 adds 4: 1 by 2\n3 deletes, 0: 4\nend\n",
-    ),
-    (
-        b"4 1 0 2 0\n\n5 d 4 0\n",
-        u64::MAX - 1,
-        b"1 adds 4: 1 by 2\n3 deletes, 0: 4\nend\n",
-    ),
-    (
-        b"4 1 0 2 0\n\n5 d 4 0\n",
-        1 << 63,
-        b"1 adds 4: 1 by 2\n3 deletes, 0: 4\nend\n",
-    ),
 ];
 
 #[test]
@@ -252,6 +235,19 @@ fn keeps_the_limit_on_bytes(rt: HostRuntime) -> Result<(), Fail> {
         assert!(rt;
             is_told(rt.alloc(), text, most, want)?,
             "{text:?}, at most {most} bytes"
+        );
+    }
+    Ok(())
+}
+
+#[test]
+fn any_number_is_a_limit(rt: HostRuntime) -> Result<(), Fail> {
+    let text = b"4 1 0 2 0\n\n5 d 4 0\n";
+    let want = b"1 adds 4: 1 by 2\n3 deletes, 0: 4\nend\n";
+    for most in [u64::MAX, u64::MAX - 1, 1 << 63] {
+        assert!(rt;
+            is_told(rt.alloc(), text, most, want)?,
+            "at most {most} bytes"
         );
     }
     Ok(())

@@ -22,6 +22,7 @@ pub fn write_line<K: Sink>(line: &Line, printer: &mut Printer<'_, K>) -> Result<
         (K.written printer.old.sink.now) (K.written printer.new.sink.now)) }
     ensures fault { IfErr result (λ e. e ≡ SinkError.Fault →
         Rose (K.faults printer.old.sink.now) (K.faults printer.new.sink.now)) }
+    ensures calm { OnOk result (K.faults printer.new.sink.now ≡ K.faults printer.old.sink.now) }
     ensures grows { K.faults printer.old.sink.now ≤ K.faults printer.new.sink.now }
 {
     match line {
@@ -48,16 +49,12 @@ fn write_addition<K: Sink>(
         (K.written printer.old.sink.now) (K.written printer.new.sink.now)) }
     ensures fault { IfErr result (λ e. e ≡ SinkError.Fault →
         Rose (K.faults printer.old.sink.now) (K.faults printer.new.sink.now)) }
+    ensures calm { OnOk result (K.faults printer.new.sink.now ≡ K.faults printer.old.sink.now) }
     ensures grows { K.faults printer.old.sink.now ≤ K.faults printer.new.sink.now }
 {
-    match write_id(id, printer) {
-        Ok(()) => {}
-        Err(failed) => return Err(failed),
-    }
-    match write_clause(lits, printer) {
-        Ok(()) => write_list(hints, printer),
-        Err(failed) => Err(failed),
-    }
+    write_id(id, printer)?;
+    write_clause(lits, printer)?;
+    write_list(hints, printer)
 }
 
 fn write_deletion<K: Sink>(
@@ -76,16 +73,12 @@ fn write_deletion<K: Sink>(
         (K.written printer.old.sink.now) (K.written printer.new.sink.now)) }
     ensures fault { IfErr result (λ e. e ≡ SinkError.Fault →
         Rose (K.faults printer.old.sink.now) (K.faults printer.new.sink.now)) }
+    ensures calm { OnOk result (K.faults printer.new.sink.now ≡ K.faults printer.old.sink.now) }
     ensures grows { K.faults printer.old.sink.now ≤ K.faults printer.new.sink.now }
 {
-    match write_id(id, printer) {
-        Ok(()) => {}
-        Err(failed) => return Err(failed),
-    }
-    match printer.bytes(b"d ") {
-        Ok(()) => write_list(ids, printer),
-        Err(failed) => Err(failed),
-    }
+    write_id(id, printer)?;
+    printer.bytes(b"d ")?;
+    write_list(ids, printer)
 }
 
 /// The literals and the 0 behind them.
@@ -98,6 +91,7 @@ fn write_clause<K: Sink>(lits: &[Lit], printer: &mut Printer<'_, K>) -> Result<(
         (K.written printer.old.sink.now) (K.written printer.new.sink.now)) }
     ensures fault { IfErr result (λ e. e ≡ SinkError.Fault →
         Rose (K.faults printer.old.sink.now) (K.faults printer.new.sink.now)) }
+    ensures calm { OnOk result (K.faults printer.new.sink.now ≡ K.faults printer.old.sink.now) }
     ensures grows { K.faults printer.old.sink.now ≤ K.faults printer.new.sink.now }
 {
     match write_literals(lits, printer) {
@@ -117,6 +111,7 @@ fn write_list<K: Sink>(ids: &[u64], printer: &mut Printer<'_, K>) -> Result<(), 
         (K.written printer.old.sink.now) (K.written printer.new.sink.now)) }
     ensures fault { IfErr result (λ e. e ≡ SinkError.Fault →
         Rose (K.faults printer.old.sink.now) (K.faults printer.new.sink.now)) }
+    ensures calm { OnOk result (K.faults printer.new.sink.now ≡ K.faults printer.old.sink.now) }
     ensures grows { K.faults printer.old.sink.now ≤ K.faults printer.new.sink.now }
 {
     match write_ids(ids, printer) {
@@ -134,6 +129,7 @@ fn write_literals<K: Sink>(lits: &[Lit], printer: &mut Printer<'_, K>) -> Result
         (K.written printer.old.sink.now) (K.written printer.new.sink.now)) }
     ensures fault { IfErr result (λ e. e ≡ SinkError.Fault →
         Rose (K.faults printer.old.sink.now) (K.faults printer.new.sink.now)) }
+    ensures calm { OnOk result (K.faults printer.new.sink.now ≡ K.faults printer.old.sink.now) }
     ensures grows { K.faults printer.old.sink.now ≤ K.faults printer.new.sink.now }
 {
     for lit in lits {
@@ -155,6 +151,7 @@ fn write_ids<K: Sink>(ids: &[u64], printer: &mut Printer<'_, K>) -> Result<(), S
         (K.written printer.old.sink.now) (K.written printer.new.sink.now)) }
     ensures fault { IfErr result (λ e. e ≡ SinkError.Fault →
         Rose (K.faults printer.old.sink.now) (K.faults printer.new.sink.now)) }
+    ensures calm { OnOk result (K.faults printer.new.sink.now ≡ K.faults printer.old.sink.now) }
     ensures grows { K.faults printer.old.sink.now ≤ K.faults printer.new.sink.now }
 {
     for id in ids {
@@ -176,6 +173,7 @@ fn write_literal<K: Sink>(lit: Lit, printer: &mut Printer<'_, K>) -> Result<(), 
         (K.written printer.old.sink.now) (K.written printer.new.sink.now)) }
     ensures fault { IfErr result (λ e. e ≡ SinkError.Fault →
         Rose (K.faults printer.old.sink.now) (K.faults printer.new.sink.now)) }
+    ensures calm { OnOk result (K.faults printer.new.sink.now ≡ K.faults printer.old.sink.now) }
     ensures grows { K.faults printer.old.sink.now ≤ K.faults printer.new.sink.now }
 {
     match printer.number(i64::from(lit.number())) {
@@ -195,6 +193,7 @@ fn write_id<K: Sink>(id: u64, printer: &mut Printer<'_, K>) -> Result<(), SinkEr
         (K.written printer.old.sink.now) (K.written printer.new.sink.now)) }
     ensures fault { IfErr result (λ e. e ≡ SinkError.Fault →
         Rose (K.faults printer.old.sink.now) (K.faults printer.new.sink.now)) }
+    ensures calm { OnOk result (K.faults printer.new.sink.now ≡ K.faults printer.old.sink.now) }
     ensures grows { K.faults printer.old.sink.now ≤ K.faults printer.new.sink.now }
 {
     match printer.number(id as i64) {

@@ -1,9 +1,9 @@
 use Rattle.std.proofs.Common.{◌≡◌, ◌≤◌, ◌+◌, ◌∷◌, [], length}
 use Rattle.gr_text.specs.Places.{known, limit_of}
 use Rattle.gr_text.specs.Stands.{stand}
-use Rattle.gr_text.proofs.Going.{Draws}
 use Rattle.gr_lrat.specs.Lines.{addition_from}
 use Rattle.gr_lrat.specs.Stages.{Onward}
+use Rattle.gr_lrat.proofs.PartRead.{ReadsPart}
 use Rattle.gr_lrat.proofs.additions.read_literals.Given as goal
 
 -- the literals so far, the present token and the tokens to come make the addition
@@ -14,11 +14,8 @@ invariant-tokens g l = record {
       l.fn.scanner.held (g.S.Source.left l.fn.scanner.source.now)
       (λ ws. addition_from l.id l.clause (l.scanner.held.token ∷ ws))
       l.scanner.held (g.S.Source.left l.scanner.source.now);
-  known_more : known l.fn.scanner.held ≤ known l.scanner.held;
   within : known l.scanner.held ≤ limit_of l.scanner.held;
-  limit : limit_of l.scanner.held ≡ limit_of l.fn.scanner.held;
-  onward : l.fn.scanner.held.passed ≤ l.scanner.held.passed;
-  draws : Draws
+  past : ReadsPart
       (stand g.S.Source.left g.S.Source.taken g.S.Source.faults l.fn.scanner.held
       l.fn.scanner.source.now)
       (stand g.S.Source.left g.S.Source.taken g.S.Source.faults l.scanner.held l.scanner.source.now);

@@ -1,8 +1,7 @@
-use Rattle.std.proofs.Common.{◌∙◌}
 use Rattle.gr_lrat.specs.Lines.{NoList, closed_list}
 use Rattle.gr_lrat.specs.Statements.{list_of}
 use Rattle.gr_lrat.proofs.Telling.{tells_then}
-use Rattle.gr_text.proofs.Going.{goes-then}
+use Rattle.gr_lrat.proofs.PartRead.{goes-behind}
 use Rattle.gr_lrat.proofs.lists.close_list.Goals as goal
 
 pub returns-in-Ok-Token-clause-tells : goal.returns-in-Ok-Token-clause-tells
@@ -13,7 +12,7 @@ returns-in-Ok-Token-clause-tells g c = λ made.
     (g.S.Source.left n.source.now)
     (rw c.in-Ok-Token.field-0-is at (c.in-Ok-Token.ensures.ok (λ ws. made (closed_list
     c.args.negative c.args.ids ws))))
-    c.no_list.ensures.goes.keeps.grows (c.no_list.ensures.tells made)
+    c.no_list.ensures.goes.0.keeps.grows (c.no_list.ensures.tells made)
 
 pub returns-in-Ok-End-clause-tells : goal.returns-in-Ok-End-clause-tells
 returns-in-Ok-End-clause-tells g c = λ made.
@@ -21,7 +20,6 @@ returns-in-Ok-End-clause-tells g c = λ made.
     (closed_list c.args.negative c.args.ids ws))))
 
 pub returns-in-Ok-Token-clause-goes : goal.returns-in-Ok-Token-clause-goes
-returns-in-Ok-Token-clause-goes g c = goes-then _ _ _ c.next_piece.ensures.goes c.no_list.ensures.goes
-
-pub returns-in-Ok-Token-clause-calm : goal.returns-in-Ok-Token-clause-calm
-returns-in-Ok-Token-clause-calm g c = λ told. c.no_list.ensures.calm told ∙ c.in-Ok-Token.ensures.calm tt
+returns-in-Ok-Token-clause-goes g c =
+    goes-behind c.no_list.result _ _ _ c.next_piece.ensures.goes.0 c.in-Ok-Token.ensures.goes.1
+    c.no_list.ensures.goes

@@ -1,9 +1,8 @@
-use Rattle.std.proofs.Common.{◌≡◌, ◌≤◌, ◌+◌, false, [], length}
-use Rattle.gr_text.specs.Places.{known, limit_of}
+use Rattle.std.proofs.Common.{◌≡◌, ◌+◌, false, [], length}
 use Rattle.gr_text.specs.Stands.{stand}
-use Rattle.gr_text.proofs.Going.{Draws}
 use Rattle.gr_lrat.specs.Lines.{Spelling, IdList, ids_from}
 use Rattle.gr_lrat.specs.Stages.{Onward}
+use Rattle.gr_lrat.proofs.PartRead.{ReadsPart}
 use Rattle.gr_lrat.proofs.lists.read_list.Given as goal
 
 -- the ids so far and the tokens to come make the list
@@ -15,10 +14,7 @@ invariant-tokens g l = record {
       l.fn.scanner.source.now)
       (λ ws. made (ids_from l.negative l.ids ws)) l.scanner.held (g.S.Source.left
       l.scanner.source.now);
-  known_more : known l.fn.scanner.held ≤ known l.scanner.held;
-  limit : limit_of l.scanner.held ≡ limit_of l.fn.scanner.held;
-  onward : l.fn.scanner.held.passed ≤ l.scanner.held.passed;
-  draws : Draws
+  past : ReadsPart
       (stand g.S.Source.left g.S.Source.taken g.S.Source.faults l.fn.scanner.held
       l.fn.scanner.source.now)
       (stand g.S.Source.left g.S.Source.taken g.S.Source.faults l.scanner.held l.scanner.source.now);

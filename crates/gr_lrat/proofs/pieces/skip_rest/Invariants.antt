@@ -1,9 +1,8 @@
-use Rattle.std.proofs.Common.{◌≡◌, ◌≤◌, ◌+◌, length}
-use Rattle.gr_text.specs.Places.{known, limit_of}
+use Rattle.std.proofs.Common.{◌≡◌, ◌+◌, length}
 use Rattle.gr_text.specs.Stands.{stand}
-use Rattle.gr_text.proofs.Going.{Draws}
 use Rattle.gr_lrat.specs.Lines.{Spelling}
 use Rattle.gr_lrat.specs.Stages.{Onward}
+use Rattle.gr_lrat.proofs.PartRead.{ReadsPart}
 use Rattle.gr_lrat.proofs.pieces.skip_rest.Given as goal
 
 -- what is left of the line is still to be passed
@@ -13,10 +12,7 @@ invariant-pieces g l = record {
   goes : (x : Spelling) → Onward (λ ws. x) l.fn.scanner.held (g.S.Source.left
       l.fn.scanner.source.now)
       (λ ws. x) l.scanner.held (g.S.Source.left l.scanner.source.now);
-  known_more : known l.fn.scanner.held ≤ known l.scanner.held;
-  limit : limit_of l.scanner.held ≡ limit_of l.fn.scanner.held;
-  onward : l.fn.scanner.held.passed ≤ l.scanner.held.passed;
-  draws : Draws
+  past : ReadsPart
       (stand g.S.Source.left g.S.Source.taken g.S.Source.faults l.fn.scanner.held
       l.fn.scanner.source.now)
       (stand g.S.Source.left g.S.Source.taken g.S.Source.faults l.scanner.held l.scanner.source.now);

@@ -6,7 +6,7 @@ use Rattle.gr_lrat.specs.Statements.{spelling_of}
 use Rattle.gr_lrat.proofs.Counted.{numbered, counted_id}
 use Rattle.gr_lrat.proofs.Telling.{onward_as, tells_then}
 use Rattle.gr_lrat.proofs.Stepping.{deletes, adds}
-use Rattle.gr_text.proofs.Going.{goes-then}
+use Rattle.gr_lrat.proofs.PartRead.{goes-behind}
 use Rattle.gr_lrat.proofs.statements.read_tokens.Goals as goal
 
 pub returns-in-Ok-End-clause-tells : goal.returns-in-Ok-End-clause-tells
@@ -36,7 +36,7 @@ returns-then-is_byte-clause-tells g c =
     (onward_as whole behind later p.held q.held (left p.source.now) (left q.source.now)
     (rw c.in-Ok-Token.field-0-is at (c.in-Ok-Token.ensures.ok whole)) (λ ws. deletes word
     q.held.token ws c.is_some.result letter counts))
-    c.read_deletion.ensures.goes.keeps.grows c.read_deletion.ensures.tells
+    c.read_deletion.ensures.goes.0.keeps.grows c.read_deletion.ensures.tells
 
 pub returns-else-is_byte-clause-tells : goal.returns-else-is_byte-clause-tells
 returns-else-is_byte-clause-tells g c =
@@ -60,16 +60,14 @@ returns-else-is_byte-clause-tells g c =
     (onward_as whole behind later p.held q.held (left p.source.now) (left q.source.now)
     (rw c.in-Ok-Token.field-0-is at (c.in-Ok-Token.ensures.ok whole)) (λ ws. adds word
     q.held.token ws c.id_of_count.result letter id_is))
-    c.read_addition.ensures.goes.keeps.grows c.read_addition.ensures.tells
+    c.read_addition.ensures.goes.0.keeps.grows c.read_addition.ensures.tells
 
 pub returns-then-is_byte-clause-goes : goal.returns-then-is_byte-clause-goes
-returns-then-is_byte-clause-goes g c = goes-then _ _ _ c.next_piece.ensures.goes c.read_deletion.ensures.goes
-
-pub returns-then-is_byte-clause-calm : goal.returns-then-is_byte-clause-calm
-returns-then-is_byte-clause-calm g c = λ told. c.read_deletion.ensures.calm told ∙ c.in-Ok-Token.ensures.calm tt
+returns-then-is_byte-clause-goes g c =
+    goes-behind c.read_deletion.result _ _ _ c.next_piece.ensures.goes.0 c.in-Ok-Token.ensures.goes.1
+    c.read_deletion.ensures.goes
 
 pub returns-else-is_byte-clause-goes : goal.returns-else-is_byte-clause-goes
-returns-else-is_byte-clause-goes g c = goes-then _ _ _ c.next_piece.ensures.goes c.read_addition.ensures.goes
-
-pub returns-else-is_byte-clause-calm : goal.returns-else-is_byte-clause-calm
-returns-else-is_byte-clause-calm g c = λ told. c.read_addition.ensures.calm told ∙ c.in-Ok-Token.ensures.calm tt
+returns-else-is_byte-clause-goes g c =
+    goes-behind c.read_addition.result _ _ _ c.next_piece.ensures.goes.0 c.in-Ok-Token.ensures.goes.1
+    c.read_addition.ensures.goes

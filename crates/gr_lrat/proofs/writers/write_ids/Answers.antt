@@ -1,4 +1,4 @@
-use Rattle.std.proofs.Common.{◌∙◌, ◌+◌, drop, get_or, pos, arith}
+use Rattle.std.proofs.Common.{◌∙◌, ◌+◌, drop, get_or, pos}
 use Rattle.std.proofs.lemmas.List.{drop_more}
 use Rattle.gr_lrat.specs.Writing.{ids_text, number_text}
 use Rattle.gr_lrat.proofs.Printed.{front-failed, front-then}
@@ -31,5 +31,5 @@ loop-id-preserved g c =
           (written begun.sink.now) (written here.sink.now) (written then.sink.now)
           begun.pending here.pending then.pending
           (rw split at c.loop-id.invariant.front) c.in-Ok.ensures.ok;
-      grows = omega (arith, c.loop-id.invariant.grows, c.write_id.ensures.grows);
+      calm = c.in-Ok.ensures.calm ∙ c.loop-id.invariant.calm;
     }

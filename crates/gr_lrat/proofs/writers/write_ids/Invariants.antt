@@ -1,4 +1,4 @@
-use Rattle.std.proofs.Common.{◌≡◌, ◌≤◌, drop}
+use Rattle.std.proofs.Common.{◌≡◌, drop}
 use Rattle.gr_lrat.specs.Writing.{ids_text}
 use Rattle.gr_lrat.proofs.Printed.{HasFront}
 use Rattle.gr_lrat.proofs.writers.write_ids.Given as goal
@@ -10,5 +10,5 @@ invariant-loop-id g l = record {
   front : HasFront (ids_text l.ids) (ids_text (drop l.id-index l.ids))
       (g.K.Sink.written l.fn.printer.sink.now) l.fn.printer.pending
       (g.K.Sink.written l.printer.sink.now) l.printer.pending;
-  grows : g.K.Sink.faults l.fn.printer.sink.now ≤ g.K.Sink.faults l.printer.sink.now;
+  calm : g.K.Sink.faults l.printer.sink.now ≡ g.K.Sink.faults l.fn.printer.sink.now;
 }

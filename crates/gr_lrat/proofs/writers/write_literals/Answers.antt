@@ -1,4 +1,4 @@
-use Rattle.std.proofs.Common.{◌∙◌, ◌∷◌, ◌+◌, ap, sym, drop, arith}
+use Rattle.std.proofs.Common.{◌∙◌, ◌∷◌, ◌+◌, ap, sym, drop}
 use Rattle.std.proofs.lemmas.List.{drop_more}
 use Rattle.gr_logic.specs.Literals.{number_of}
 use Rattle.gr_lrat.specs.Writing.{literals_text, number_text}
@@ -34,5 +34,5 @@ loop-lit-preserved g c =
           (written begun.sink.now) (written here.sink.now) (written then.sink.now)
           begun.pending here.pending then.pending
           (rw split at c.loop-lit.invariant.front) c.in-Ok.ensures.ok;
-      grows = omega (arith, c.loop-lit.invariant.grows, c.write_literal.ensures.grows);
+      calm = c.in-Ok.ensures.calm ∙ c.loop-lit.invariant.calm;
     }

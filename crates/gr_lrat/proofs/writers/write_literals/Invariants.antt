@@ -1,4 +1,4 @@
-use Rattle.std.proofs.Common.{◌≡◌, ◌≤◌, drop}
+use Rattle.std.proofs.Common.{◌≡◌, drop}
 use Rattle.gr_lrat.specs.Writing.{literals_text}
 use Rattle.gr_lrat.proofs.Printed.{HasFront}
 use Rattle.gr_lrat.proofs.writers.write_literals.Given as goal
@@ -10,5 +10,5 @@ invariant-loop-lit g l = record {
   front : HasFront (literals_text l.lits) (literals_text (drop l.lit-index l.lits))
       (g.K.Sink.written l.fn.printer.sink.now) l.fn.printer.pending
       (g.K.Sink.written l.printer.sink.now) l.printer.pending;
-  grows : g.K.Sink.faults l.fn.printer.sink.now ≤ g.K.Sink.faults l.printer.sink.now;
+  calm : g.K.Sink.faults l.printer.sink.now ≡ g.K.Sink.faults l.fn.printer.sink.now;
 }

@@ -1,5 +1,0 @@
-use Rattle.gr_lrat.specs.Lines.{Nothing}
-use Rattle.gr_lrat.proofs.statements.pass_comment.Goals as goal
-
-pub returns-in-Err-clause-tells : goal.returns-in-Err-clause-tells
-returns-in-Err-clause-tells g c = c.in-Err.ensures.tells Nothing
