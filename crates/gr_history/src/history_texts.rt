@@ -17,6 +17,7 @@ pub fn write_history<K: Sink>(diary: &Diary, proof: &mut K) -> Result<(), SinkEr
     ensures ok { OnOk result (Gains (log_text (lines_in diary.now)) (K.written proof.old) (K.written proof.new)) }
     ensures err { OnErr result (GainsPart (log_text (lines_in diary.now)) (K.written proof.old) (K.written proof.new)) }
     ensures fault { IfErr result (λ e. e ≡ SinkError.Fault → Rose (K.faults proof.old) (K.faults proof.new)) }
+    ensures calm { OnOk result (K.faults proof.new ≡ K.faults proof.old) }
     ensures grows { K.faults proof.old ≤ K.faults proof.new }
 {
     let mut printer = Printer::new(proof);
@@ -37,6 +38,7 @@ fn print_history<K: Sink>(diary: &Diary, printer: &mut Printer<'_, K>) -> Result
         (K.written printer.old.sink.now) (K.written printer.new.sink.now)) }
     ensures fault { IfErr result (λ e. e ≡ SinkError.Fault →
         Rose (K.faults printer.old.sink.now) (K.faults printer.new.sink.now)) }
+    ensures calm { OnOk result (K.faults printer.new.sink.now ≡ K.faults printer.old.sink.now) }
     ensures grows { K.faults printer.old.sink.now ≤ K.faults printer.new.sink.now }
 {
     let mut lines = diary.lines();
