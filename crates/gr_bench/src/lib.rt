@@ -23,4 +23,6 @@ pub use answers::{BenchError, Closing, Imported, TakeError, Taken};
 pub use benches::Bench;
 
 #[cfg(test)]
+mod calls;
+#[cfg(test)]
 mod tests;

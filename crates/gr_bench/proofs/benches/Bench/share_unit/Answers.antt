@@ -7,14 +7,10 @@ use Rattle.gr_bench.proofs.KeptSteps.{next-free, next-no_result, shared-step}
 use Rattle.gr_bench.proofs.benches.Bench.share_unit.Goals as goal
 
 pub share-requires-clause-held : goal.share-requires-clause-held
-share-requires-clause-held c =
-    let i = c.self.inside in
-    next-free i.formula i.reducers i.capacity i.diary (table_of i.books) c.self.invariant c.args.actor
+share-requires-clause-held c = next-free _ _ _ _ _ c.self.invariant c.args.actor
 
 pub share-requires-clause-apart : goal.share-requires-clause-apart
-share-requires-clause-apart c =
-    let i = c.self.inside in
-    next-no_result i.formula i.reducers i.capacity i.diary (table_of i.books) c.self.invariant
+share-requires-clause-apart c = next-no_result _ _ _ _ _ c.self.invariant
 
 pub invariant_of-self-2 : goal.invariant_of-self-2
 invariant_of-self-2 c =

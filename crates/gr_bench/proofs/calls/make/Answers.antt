@@ -2,7 +2,7 @@ use Rattle.std.proofs.Common.{◌≡◌, rules, subst}
 use Rattle.gr_logic.specs.declared.items.Strengthened.TheVariants.{Same, Shorter}
 use Rattle.gr_diary.specs.declared.entries.Entry.TheVariants.{Return}
 use Rattle.gr_bench.specs.Exchanges.{IsEnabledAt}
-use Rattle.gr_bench.proofs.tests.make.Goals as goal
+use Rattle.gr_bench.proofs.calls.make.Goals as goal
 
 pub give_back-requires : goal.give_back-requires
 give_back-requires c =
