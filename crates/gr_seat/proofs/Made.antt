@@ -26,6 +26,18 @@ pub record IsTurn (s u : Sitting Entry Fixed) (a b : Exchange) : Type 0 where
   pub ends : u.seen ≡ b.diary.entries
   pub own : by actor_of u.seen u.number ≡ u.own
 
+-- a turn, by what the lock says of its beginning and its end
+pub turn_of : (s u : Sitting Entry Fixed) (a b : Exchange) → IsSeated s → Some (fixed_of a) ≡ s.fixed
+    → IsPrefix s.seen a.diary.entries → u.seen ≡ b.diary.entries → by actor_of u.seen u.number ≡ u.own
+    → IsTurn s u a b
+turn_of s u a b seated fixed begins ends own = record {
+  seated = seated;
+  fixed = fixed;
+  begins = begins;
+  ends = ends;
+  own = own;
+}
+
 -- where the history grew by an entry, the seat made it
 pub makes : (s u : Sitting Entry Fixed) (a b : Exchange) (e : Entry) (Told : State → Type 0) → IsTurn s u a b
     → Gains true a.diary.entries b.diary.entries s.own u.own → IsGrown a b e → Told (state_at a)

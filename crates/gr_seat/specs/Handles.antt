@@ -12,6 +12,7 @@ use Rattle.gr_seat.specs.declared.shelves.Fixed.{Fixed}
 abbrev pub fixed_of : Exchange → Fixed
 fixed_of x = record { formula = x.formula; reducers = x.reducers; capacity = x.capacity }
 
+-- a seat: where it is and whose, and what it has seen and done
 pub record Handle : Type 0 where
   -- which exchange it is a seat at
   pub lock : TableId

@@ -67,8 +67,8 @@ impl SharedBench {
         })
     }
 
-    /// The next reducer's seat, which has seen what the searching thread's has, and has made nothing. Takes no turn and no
-    /// memory.
+    /// The next reducer's seat, which has seen what the searching thread's has, and has made nothing. Takes no turn
+    /// and no memory.
     pub fn reducer_seat(&self, solver: &mut SolverSeat) -> ReducerSeat
         requires lock { solver.old.lock ≡ self.now }
         requires few { solver.old.splits < solver.old.reducers }
@@ -88,8 +88,8 @@ impl SharedBench {
         }
     }
 
-    /// Takes a reducer's seat back: the searching thread's has then seen the longer of both histories. Takes no turn and no
-    /// memory.
+    /// Takes a reducer's seat back: the searching thread's has then seen the longer of both histories. Takes no turn
+    /// and no memory.
     pub fn join_reducer(&self, solver: &mut SolverSeat, reducer: ReducerSeat)
         requires lock { (solver.old.lock ≡ self.now) × (reducer.lock ≡ self.now) }
         requires same { HasSameExchange solver.old reducer }

@@ -69,7 +69,8 @@ impl SharedBench {
     pub fn import<R: Wait>(&self, rt: &R, seat: &mut SolverSeat) -> Result<Imported, BenchError>
         requires { seat.old.lock ≡ self.now }
         ensures turn { TakesTurn seat.old seat.new }
-        ensures ok { IfOk result (λ imported. Makes seat.old seat.new (entry_of imported) (λ s. IsImported s imported)) }
+        ensures ok { IfOk result (λ imported. Makes seat.old seat.new (entry_of imported)
+            (λ s. IsImported s imported)) }
         ensures err { OnErr result (MakesNone seat.old seat.new) }
         ensures closed { result ≡ Err BenchError.Closed → IsClosed seat.new.seen }
     {

@@ -10,7 +10,7 @@ use Rattle.gr_seat.specs.declared.shelves.Fixed.{Fixed}
 use Rattle.gr_seat.specs.Handles.{Handle, Enables, handle_of}
 use Rattle.gr_seat.specs.Turns.{Makes}
 use Rattle.gr_seat.proofs.Later.{enabled_at_turn}
-use Rattle.gr_seat.proofs.Made.{IsTurn, makes_if_ok}
+use Rattle.gr_seat.proofs.Made.{IsTurn, turn_of, makes_if_ok}
 use Rattle.gr_seat.proofs.shared_benches.SharedBench.give_back.Goals as goal
 
 pub give_back-answer-requires : goal.give_back-answer-requires
@@ -29,13 +29,8 @@ returns-clause-ok g c =
     let e : ℕ → Entry = λ n. entry.Return n c.args.outcome in
     let seat = c.seat.inside.seat in
     let after = c.leave.new.seat in
-    let turn : IsTurn seat after found left = record {
-      seated = c.seat.invariant.0;
-      fixed = search rules;
-      begins = search rules;
-      ends = search rules;
-      own = search rules;
-    } in
+    let turn : IsTurn seat after found left =
+    turn_of seat after found left c.seat.invariant.0 (search rules) (search rules) (search rules) (search rules) in
     let entered = subst (λ (v : Sitting Entry Fixed). Gains c.is_ok.result v.found left.diary.entries v.own after.own)
     c.enter-held.ensures.seat c.leave.ensures.own in
     let gains = subst (λ (v : Shelf). Gains c.is_ok.result v.bench.diary.entries left.diary.entries seat.own after.own)

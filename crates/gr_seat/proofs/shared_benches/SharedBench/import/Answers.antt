@@ -8,7 +8,7 @@ use Rattle.gr_seat.specs.declared.shelves.Shelf.{Shelf}
 use Rattle.gr_seat.specs.declared.shelves.Fixed.{Fixed}
 use Rattle.gr_seat.specs.Handles.{Handle, handle_of}
 use Rattle.gr_seat.specs.Turns.{Makes}
-use Rattle.gr_seat.proofs.Made.{IsTurn, makes_if_ok, first_if_ok, second_if_ok}
+use Rattle.gr_seat.proofs.Made.{IsTurn, turn_of, makes_if_ok, first_if_ok, second_if_ok}
 use Rattle.gr_seat.proofs.shared_benches.SharedBench.import.Goals as goal
 
 pub returns-clause-ok : goal.returns-clause-ok
@@ -18,13 +18,8 @@ returns-clause-ok g c =
     let answer = c.import-answer.result in
     let seat = c.seat.inside.seat in
     let after = c.leave.new.seat in
-    let turn : IsTurn seat after found left = record {
-      seated = c.seat.invariant.0;
-      fixed = search rules;
-      begins = search rules;
-      ends = search rules;
-      own = search rules;
-    } in
+    let turn : IsTurn seat after found left =
+    turn_of seat after found left c.seat.invariant.0 (search rules) (search rules) (search rules) (search rules) in
     let grew = first_if_ok answer (λ x. IsGrown found left (entry_of x)) (λ x. IsImported (state_at found) x)
     c.import-answer.ensures.ok in
     let told = second_if_ok answer (λ x. IsGrown found left (entry_of x)) (λ x. IsImported (state_at found) x)
