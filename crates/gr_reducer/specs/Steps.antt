@@ -4,8 +4,9 @@ use Rattle.gr_logic.specs.Literals.{Literal}
 use Rattle.gr_logic.specs.Rup.{Live}
 use Rattle.gr_logic.specs.Closure.{family_of}
 use Rattle.gr_diary.specs.Histories.{clauses_held_by, taken_by}
-use Rattle.gr_seat.specs.Handles.{Handle, HasSeenLegal}
-use Rattle.gr_strengthen.specs.Families.{kept_family}
+use Rattle.gr_seat.specs.Handles.{TableId, Handle, HasSeenLegal}
+use Rattle.gr_strengthen.specs.Families.{kept_family, cited_family}
+use Rattle.gr_strengthen.specs.Outcomes.{HasItsUnits}
 use Rattle.gr_strengthen.specs.Strengtheners.{StrengthenerState}
 
 -- the clauses that the seat's actor holds, as far as the seat has seen the history
@@ -38,6 +39,20 @@ IsFree h = taken_at h ≡ None
 pub record HasTaken (h : Handle) (id : ℕ) (c : List Literal) : Type 0 where
   pub taken : taken_at h ≡ Some id
   pub clause : held_at h id ≡ Some c
+
+-- a reducer between two rounds, at a seat of this exchange
+pub record IsBetweenRounds (exchange : TableId) (h : Handle) (s : StrengthenerState) : Type 0 where
+  pub lock : h.lock ≡ exchange
+  pub in_step : IsInStep h s
+  pub free : IsFree h
+
+-- a reducer within a round, that has taken this clause and has shared its units
+pub record IsReadyToGive (exchange : TableId) (h : Handle) (s : StrengthenerState) (id : ℕ) (c : List Literal)
+    : Type 0 where
+  pub lock : h.lock ≡ exchange
+  pub in_step : IsInStep h s
+  pub taken : HasTaken h id c
+  pub units : HasItsUnits (cited_family s.formula s.kept)
 
 -- what the reducer had taken it still has
 abbrev pub KeepsTaken : Handle → Handle → Type 0

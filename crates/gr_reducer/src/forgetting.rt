@@ -2,7 +2,7 @@
 ghost use Rattle.std.specs.Prelude.{◌≡◌, OnOk};
 ghost use Rattle.gr_diary.specs.Histories.{IsClosed};
 ghost use Rattle.gr_seat.specs.Turns.{SeesMore};
-ghost use Rattle.gr_reducer.specs.Steps.{IsInStep, IsFree};
+ghost use Rattle.gr_reducer.specs.Steps.{IsBetweenRounds};
 
 use crate::endings::{Ended, end_by};
 use crate::keeping::Keeping;
@@ -16,12 +16,9 @@ pub(crate) fn let_go<R: Wait>(
     seat: &mut ReducerSeat,
     keeping: &mut Keeping<'_>,
 ) -> Result<(), Ended>
-    requires lock { seat.old.lock ≡ bench.now }
-    requires in_step { IsInStep seat.old keeping.old.strengthener }
-    requires free { IsFree seat.old }
+    requires ready { IsBetweenRounds bench.now seat.old keeping.old.strengthener }
     ensures sees { SeesMore seat.old seat.new }
-    ensures in_step { OnOk result (IsInStep seat.new keeping.new.strengthener) }
-    ensures free { OnOk result (IsFree seat.new) }
+    ensures ready { OnOk result (IsBetweenRounds bench.now seat.new keeping.new.strengthener) }
     ensures closed { result ≡ Err Ended.Closed → IsClosed seat.new.seen }
 {
     if !keeping.is_full() {

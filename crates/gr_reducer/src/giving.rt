@@ -4,8 +4,8 @@ ghost use Rattle.gr_logic.specs.declared.items.Strengthened.TheVariants.{Same, S
 ghost use Rattle.gr_diary.specs.Histories.{IsClosed};
 ghost use Rattle.gr_seat.specs.Turns.{SeesMore};
 ghost use Rattle.gr_strengthen.specs.Families.{cited_family};
-ghost use Rattle.gr_strengthen.specs.Outcomes.{IsStrengthened, HasItsUnits};
-ghost use Rattle.gr_reducer.specs.Steps.{IsInStep, IsFree, HasTaken};
+ghost use Rattle.gr_strengthen.specs.Outcomes.{IsStrengthened};
+ghost use Rattle.gr_reducer.specs.Steps.{IsBetweenRounds, IsReadyToGive};
 
 use crate::endings::{Ended, end_by};
 use crate::keeping::Keeping;
@@ -22,13 +22,9 @@ pub(crate) fn give<R: Wait>(
     keeping: &mut Keeping<'_>,
     taken: Taken,
 ) -> Result<(), Ended>
-    requires lock { seat.old.lock ≡ bench.now }
-    requires in_step { IsInStep seat.old keeping.old.strengthener }
-    requires taken { HasTaken seat.old taken.id taken.clause }
-    requires units { HasItsUnits (cited_family keeping.old.strengthener.formula keeping.old.strengthener.kept) }
+    requires ready { IsReadyToGive bench.now seat.old keeping.old.strengthener taken.id taken.clause }
     ensures sees { SeesMore seat.old seat.new }
-    ensures in_step { OnOk result (IsInStep seat.new keeping.new.strengthener) }
-    ensures free { OnOk result (IsFree seat.new) }
+    ensures ready { OnOk result (IsBetweenRounds bench.now seat.new keeping.new.strengthener) }
     ensures closed { result ≡ Err Ended.Closed → IsClosed seat.new.seen }
 {
     // That what it has seen is legal.
@@ -49,16 +45,12 @@ fn give_same<R: Wait>(
     keeping: &mut Keeping<'_>,
     taken: Taken,
 ) -> Result<(), Ended>
-    requires lock { seat.old.lock ≡ bench.now }
-    requires in_step { IsInStep seat.old keeping.old.strengthener }
-    requires taken { HasTaken seat.old taken.id taken.clause }
-    requires units { HasItsUnits (cited_family keeping.old.strengthener.formula keeping.old.strengthener.kept) }
+    requires ready { IsReadyToGive bench.now seat.old keeping.old.strengthener taken.id taken.clause }
     requires strengthened { IsStrengthened
         (cited_family keeping.old.strengthener.formula keeping.old.strengthener.kept)
         keeping.old.strengthener.formula.vars taken.id taken.clause Same }
     ensures sees { SeesMore seat.old seat.new }
-    ensures in_step { OnOk result (IsInStep seat.new keeping.new.strengthener) }
-    ensures free { OnOk result (IsFree seat.new) }
+    ensures ready { OnOk result (IsBetweenRounds bench.now seat.new keeping.new.strengthener) }
     ensures closed { result ≡ Err Ended.Closed → IsClosed seat.new.seen }
 {
     match bench.give_back(rt, seat, Strengthened::Same) {
@@ -80,16 +72,13 @@ fn give_shorter<R: Wait>(
     clause: Clause,
     hints: Ids,
 ) -> Result<(), Ended>
-    requires lock { seat.old.lock ≡ bench.now }
-    requires in_step { IsInStep seat.old keeping.old.strengthener }
-    requires taken { HasTaken seat.old taken.now.id taken.now.clause }
-    requires units { HasItsUnits (cited_family keeping.old.strengthener.formula keeping.old.strengthener.kept) }
+    requires ready { IsReadyToGive bench.now seat.old keeping.old.strengthener taken.now.id
+        taken.now.clause }
     requires strengthened { IsStrengthened
         (cited_family keeping.old.strengthener.formula keeping.old.strengthener.kept)
         keeping.old.strengthener.formula.vars taken.now.id taken.now.clause (Shorter clause hints) }
     ensures sees { SeesMore seat.old seat.new }
-    ensures in_step { OnOk result (IsInStep seat.new keeping.new.strengthener) }
-    ensures free { OnOk result (IsFree seat.new) }
+    ensures ready { OnOk result (IsBetweenRounds bench.now seat.new keeping.new.strengthener) }
     ensures closed { result ≡ Err Ended.Closed → IsClosed seat.new.seen }
 {
     let kept = clause.copy()?;

@@ -2,7 +2,7 @@
 ghost use Rattle.std.specs.Prelude.{◌≡◌, [], OnOk, IfOk};
 ghost use Rattle.gr_diary.specs.Histories.{IsClosed, entries_of};
 ghost use Rattle.gr_seat.specs.Turns.{SeesMore};
-ghost use Rattle.gr_reducer.specs.Steps.{IsInStep, IsFree, HasTaken};
+ghost use Rattle.gr_reducer.specs.Steps.{IsInStep, HasTaken, IsBetweenRounds};
 
 use crate::endings::{Ended, Finished, end_by};
 use crate::forgetting::let_go;
@@ -61,9 +61,7 @@ fn work_on<R: Wait, G: Gate>(
     seat: &mut ReducerSeat,
     keeping: &mut Keeping<'_>,
 ) -> Ended
-    requires lock { seat.old.lock ≡ bench.now }
-    requires in_step { IsInStep seat.old keeping.old.strengthener }
-    requires free { IsFree seat.old }
+    requires ready { IsBetweenRounds bench.now seat.old keeping.old.strengthener }
     ensures sees { SeesMore seat.old seat.new }
     ensures closed { result ≡ Ended.Closed → IsClosed seat.new.seen }
 {
@@ -84,12 +82,9 @@ fn work_once<R: Wait, G: Gate>(
     seat: &mut ReducerSeat,
     keeping: &mut Keeping<'_>,
 ) -> Result<(), Ended>
-    requires lock { seat.old.lock ≡ bench.now }
-    requires in_step { IsInStep seat.old keeping.old.strengthener }
-    requires free { IsFree seat.old }
+    requires ready { IsBetweenRounds bench.now seat.old keeping.old.strengthener }
     ensures sees { SeesMore seat.old seat.new }
-    ensures in_step { OnOk result (IsInStep seat.new keeping.new.strengthener) }
-    ensures free { OnOk result (IsFree seat.new) }
+    ensures ready { OnOk result (IsBetweenRounds bench.now seat.new keeping.new.strengthener) }
     ensures closed { result ≡ Err Ended.Closed → IsClosed seat.new.seen }
 {
     let taken = take_one(rt, bench, gate, seat, keeping)?;
@@ -106,9 +101,7 @@ fn take_one<R: Wait, G: Gate>(
     seat: &mut ReducerSeat,
     keeping: &Keeping<'_>,
 ) -> Result<Taken, Ended>
-    requires lock { seat.old.lock ≡ bench.now }
-    requires in_step { IsInStep seat.old keeping.now.strengthener }
-    requires free { IsFree seat.old }
+    requires ready { IsBetweenRounds bench.now seat.old keeping.now.strengthener }
     ensures sees { SeesMore seat.old seat.new }
     ensures in_step { OnOk result (IsInStep seat.new keeping.now.strengthener) }
     ensures taken { IfOk result (λ taken. HasTaken seat.new taken.id taken.clause) }

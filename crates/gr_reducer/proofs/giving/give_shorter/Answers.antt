@@ -11,34 +11,36 @@ use Rattle.gr_reducer.proofs.giving.give_shorter.Goals as goal
 
 pub give_back-requires-clause-able : goal.give_back-requires-clause-able
 give_back-requires-clause-able g c =
-    may-return c.args.seat.now c.args.keeping.now.strengthener c.requires.in_step c.args.taken.now.id
-    c.args.taken.now.clause c.requires.taken c.requires.units (Shorter c.args.clause c.args.hints)
+    may-return c.args.seat.now c.args.keeping.now.strengthener c.requires.ready.in_step c.args.taken.now.id
+    c.args.taken.now.clause c.requires.ready.taken c.requires.ready.units (Shorter c.args.clause c.args.hints)
     c.requires.strengthened
 
 pub keep-requires-clause-above : goal.keep-requires-clause-above
 keep-requires-clause-above g c =
     (shorter-is-new c.args.seat.now c.give_back.new.seat c.args.keeping.now.strengthener c.args.taken.now.id
-    c.args.taken.now.clause c.args.clause c.args.hints c.in-Ok-Some.id c.requires.in_step c.requires.taken
+    c.args.taken.now.clause c.args.clause c.args.hints c.in-Ok-Some.id c.requires.ready.in_step c.requires.ready.taken
     c.give_back.ensures.turn.sees (rw c.in-Ok-Some.field-0-is at c.in-Ok-Some.ensures.ok)).above
 
 pub keep-requires-clause-unused : goal.keep-requires-clause-unused
 keep-requires-clause-unused g c =
     (shorter-is-new c.args.seat.now c.give_back.new.seat c.args.keeping.now.strengthener c.args.taken.now.id
-    c.args.taken.now.clause c.args.clause c.args.hints c.in-Ok-Some.id c.requires.in_step c.requires.taken
+    c.args.taken.now.clause c.args.clause c.args.hints c.in-Ok-Some.id c.requires.ready.in_step c.requires.ready.taken
     c.give_back.ensures.turn.sees (rw c.in-Ok-Some.field-0-is at c.in-Ok-Some.ensures.ok)).free
 
-pub returns-in-Ok-Some-clause-in_step : goal.returns-in-Ok-Some-clause-in_step
-returns-in-Ok-Some-clause-in_step g c =
+pub returns-in-Ok-Some-clause-ready : goal.returns-in-Ok-Some-clause-ready
+returns-in-Ok-Some-clause-ready g c =
     let k = c.args.keeping.now.strengthener in
     let with : List Literal → StrengthenerState =
     λ d. record k { kept = finite.insert k.kept c.in-Ok-Some.id (set.from_list d) } in
-    subst (IsInStep c.give_back.new.seat) (sym (c.in_ok-keep-in-Ok-Some.ensures ∙ ap with c.in_ok-kept.ensures))
-    (after-shorter c.args.seat.now c.give_back.new.seat k c.args.taken.now.id c.args.taken.now.clause c.args.clause
-    c.args.hints c.in-Ok-Some.id c.requires.in_step c.requires.taken c.give_back.ensures.turn.sees
-    (rw c.in-Ok-Some.field-0-is at c.in-Ok-Some.ensures.ok))
-
-pub returns-in-Ok-Some-clause-free : goal.returns-in-Ok-Some-clause-free
-returns-in-Ok-Some-clause-free g c =
-    free-after-shorter c.args.seat.now c.give_back.new.seat c.args.keeping.now.strengthener c.args.taken.now.id
-    c.args.taken.now.clause c.args.clause c.args.hints c.in-Ok-Some.id c.requires.in_step c.requires.taken
-    c.give_back.ensures.turn.sees (rw c.in-Ok-Some.field-0-is at c.in-Ok-Some.ensures.ok)
+    record {
+      lock = c.give_back.ensures.turn.sees.same.lock ∙ c.requires.ready.lock;
+      in_step = subst (IsInStep c.give_back.new.seat)
+          (sym (c.in_ok-keep-in-Ok-Some.ensures ∙ ap with c.in_ok-kept.ensures))
+          (after-shorter c.args.seat.now c.give_back.new.seat k c.args.taken.now.id c.args.taken.now.clause
+          c.args.clause c.args.hints c.in-Ok-Some.id c.requires.ready.in_step c.requires.ready.taken
+          c.give_back.ensures.turn.sees (rw c.in-Ok-Some.field-0-is at c.in-Ok-Some.ensures.ok));
+      free = free-after-shorter c.args.seat.now c.give_back.new.seat k c.args.taken.now.id
+          c.args.taken.now.clause c.args.clause c.args.hints c.in-Ok-Some.id c.requires.ready.in_step
+          c.requires.ready.taken c.give_back.ensures.turn.sees
+          (rw c.in-Ok-Some.field-0-is at c.in-Ok-Some.ensures.ok);
+    }
