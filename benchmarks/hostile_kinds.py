@@ -15,6 +15,8 @@ from hostile_texts import TEXTS, damaged, drawn, laid_out
 HERE = os.path.dirname(os.path.abspath(__file__))
 ALONE, BESIDE = ["--reducers", "0"], ["--reducers", "2"]
 NOBODY = 65534
+# How many files the program opens before those that its words name.
+KEPT_NUMBERS = 3
 WRONG_WORDS = [[], [""], ["\n"], ["solve"], ["solve", "a"], ["solve", "a" * 100000], ["audit", "a", "b"],
                ["solve", b"\xff.cnf", "b"], ["check", b"\xff", b"\xfe"], ["solve", "a", "b", "--reducers", "9"],
                ["large", "pigeons", "51"]]
@@ -72,13 +74,16 @@ def counts_of(end):
     return {name: int(count) for name, count in (line.split() for line in end.err.decode().splitlines())}
 
 
-def statuses(call, number, count, due, words):
-    """Which statuses a run may end with whose call of this number fails."""
+def statuses(call, number, due, words, goes_on):
+    """Which statuses a run may end with whose call of this number fails, and with `goes_on` all behind it. The first
+    files that are opened keep the numbers of the standard streams, and a run does without them."""
     if call == "memory":
         return {due, 6}
     if call == "thread":
         return {due}
-    if call == "read" or (call == "open" and (number == 1 or words is None)):
+    if call == "open" and number <= KEPT_NUMBERS and not goes_on:
+        return {due}
+    if call == "read" or (call == "open" and (number <= KEPT_NUMBERS + 1 or words is None)):
         return {4}
     return {5} if words != BESIDE else {5, due}
 
@@ -102,10 +107,10 @@ def calls(judge, asked):
         run({due}, "", "short")
         for call, count in counts_of(run({due}, "", "none")).items():
             for number in some(count, 100):
-                allowed = statuses(call, number, count, due, words)
                 is_last = call == "write" and number == count and words == ALONE
-                for refuse in (f"{call}:{number}", f"{call}:{number}+"):
-                    run(allowed, "", refuse, is_log_due=is_last)
+                for goes_on in (False, True):
+                    allowed = statuses(call, number, due, words, goes_on)
+                    run(allowed, "", f"{call}:{number}{'+' if goes_on else ''}", is_log_due=is_last)
 
 
 def full(judge, asked):
@@ -200,11 +205,19 @@ def closed(judge, asked):
         judge.other([], {2 if has_out else 5}, f"{where}, no words", USAGE if has_out else b"", before=how["before"])
 
 
+def with_small_output(before):
+    """What is called in a child whose output goes into a pipe that holds no more than a page."""
+    def both():
+        fcntl.fcntl(1, 1031, 4096)  # F_SETPIPE_SZ
+        before()
+
+    return both
+
+
 def read_some(count):
     """What reads so many bytes of the output, and then ends."""
     def during(child):
         seen, number = b"", child.stdout.fileno()
-        fcntl.fcntl(number, 1031, 4096)  # F_SETPIPE_SZ
         while len(seen) < count:
             piece = os.read(number, count - len(seen))
             if not piece:
@@ -279,8 +292,8 @@ def pipe(judge, asked):
             judge.check(TEXTS["refuted"], logs["refuted"], failed, f"{where}, no reader", **how)
         for count in range(1, 140000, 3000):
             allowed = failed if count < 100000 else failed | {10}
-            judge.solve(TEXTS["wide"], ALONE, allowed, f"{where}, a reader of {count:,} bytes", before=before,
-                        during=read_some(count), is_kept=False)
+            judge.solve(TEXTS["wide"], ALONE, allowed, f"{where}, a reader of {count:,} bytes",
+                        before=with_small_output(before), during=read_some(count), is_kept=False)
         for count in around(len(logs["pigeons"]), 40)[1:]:
             allowed = failed if count + 9000 < len(logs["pigeons"]) else failed | {20}
             judge.solve(TEXTS["pigeons"], ALONE, allowed, f"{where}, a reader of {count:,} bytes of the log", log=named,
