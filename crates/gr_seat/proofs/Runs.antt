@@ -82,10 +82,11 @@ low_three = All-cons (λ id. id ≤ 3) 1 (2 ∷ 3 ∷ []) (omega arith) (All-con
 pub two_stays : (h : Handle) → h.formula ≡ chain → HasSeenLegal h → h.actor ≤ h.reducers
     → Enables h (entry.Unit h.actor (plus 2) (1 ∷ 2 ∷ []))
 two_stays h is legal low =
+    let first = learns-are-in-bounds.0.0.able.0 in
     subst (λ (f : Cnf). IsEnabled f h.reducers h.capacity h.seen (entry.Unit h.actor (plus 2) (1 ∷ 2 ∷ []))) (sym is) (
       low,
       stays_justified h.reducers h.capacity h.seen h.actor (plus 2 ∷ []) (1 ∷ 2 ∷ [])
-          (subst (λ (f : Cnf). IsLegal f h.reducers h.capacity h.seen) is legal) low_two learns-are-in-bounds.0.0.able.0,
+          (subst (λ (f : Cnf). IsLegal f h.reducers h.capacity h.seen) is legal) low_two first,
     )
 
 -- and so may the clause `3 4`, on offer

@@ -70,8 +70,8 @@ pub(crate) fn add_two<R: Wait>(
     requires at { (seat.old.lock ≡ bench.now) × (seat.old.formula ≡ chain) }
     ensures at { (seat.new.lock ≡ bench.now) × (seat.new.formula ≡ chain) }
 {
-    let _actor = seat.actor();
     let hints = ids(alloc, &[1, 2])?;
+    let _actor = seat.actor();
     bench.solver_unit(rt, seat, Lit::of_var(2, true), hints)
 }
 
