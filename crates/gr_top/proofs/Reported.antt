@@ -1,10 +1,12 @@
 -- what a run's report says
 use Rattle.std.proofs.Common.{◌≡◌, ◌∙◌, sym, ap, subst, refl, ◌+◌, ◌<◌, ◌*◌, ◌^◌, length, All}
-use Rattle.std.specs.Prelude.{Result, Ok, Err, OnOk, OnErr, IfErr}
+use Rattle.std.specs.Prelude.{Result, Ok, Err, OnOk, OnErr, IfOk, IfErr}
 use Rattle.gr_io.specs.Pieces.{Gains, GainsPart}
 use Rattle.gr_io.specs.declared.sinks.SinkError.{SinkError}
 use Rattle.gr_io.specs.declared.sinks.SinkError.TheVariants as sink_errors
 use Rattle.gr_logic.specs.Formulas.{Cnf}
+use Rattle.gr_logic.specs.Log.{HasIds}
+use Rattle.gr_logic.specs.declared.memory.OutOfMemory.{OutOfMemory}
 use Rattle.gr_logic.specs.declared.items.Strengthened.TheVariants.{Shorter}
 use Rattle.gr_diary.specs.declared.entries.Entry.TheVariants.{Return}
 use Rattle.gr_diary.specs.Diaries.{Journal, journal_lines}
@@ -138,3 +140,9 @@ module _ (f : Cnf) (o : SolveOptions) (ran : Ran) (is : IsRan f o ran) where
     unknown-answers (Err failed) verdict whole part why proof status bare =
         cut-output-answers failed f o old new r status bare
         (InUnknown ran.diary (history-of offered) (spent-of verdict) (record { out = part; proof = proof })) why
+
+-- a run's lines have ids that fit, where there was memory for it
+pub ids-of : (f : Cnf) (o : SolveOptions) (ran : Result Ran OutOfMemory) → IfOk ran (IsRan f o)
+    → IfOk ran (λ ran. All HasIds (lines_in ran.diary))
+ids-of f o (Ok ran) is = subst (All HasIds) (sym (lines-of f o ran is)) is.ids
+ids-of f o (Err want) is = tt

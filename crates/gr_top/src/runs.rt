@@ -1,5 +1,5 @@
 // The call that the program makes.
-ghost use Rattle.std.specs.Prelude.{◌≡◌, ℕ, All, IfErr, OnOk};
+ghost use Rattle.std.specs.Prelude.{◌≡◌, ℕ, All, IfErr, IfOk, OnOk};
 ghost use Rattle.gr_logic.specs.Log.{HasIds};
 ghost use Rattle.gr_history.specs.HistoryLogs.{lines_in};
 ghost use Rattle.gr_logic.specs.Formulas.{Cnf};
@@ -29,7 +29,7 @@ use crate::texts::{write_model, write_unknown, write_unsatisfiable, write_usage}
 use gr_diary::Diary;
 use gr_history::write_history;
 use gr_io::{Gate, Sink, SinkError, Source};
-use gr_logic::Formula;
+use gr_logic::OutOfMemory;
 use gr_run::{Ran, SolveOptions, Verdict, solve_alone, solve_shared};
 use gr_words::{Call, SolveWords, Words, WordsError};
 use std::alloc::Global;
@@ -83,6 +83,7 @@ pub fn run<R: Threads + Wait + Sync, A: Source, B: Source, C: Sink, D: Sink, G: 
     ensures calm { IsWellRead result.status →
         (A.faults cnf.new ≡ A.faults cnf.old) × (B.faults log.new ≡ B.faults log.old) }
     ensures calm_out { IsWellWritten result.status → C.faults out.new ≡ C.faults out.old }
+    ensures calm_proof { IsWellWritten result.status → D.faults proof.new ≡ D.faults proof.old }
 {
     match words.call(alloc) {
         Ok(Call::Solve(words)) => solve(rt, alloc, &run_options(words), cnf, out, proof, gate),
@@ -125,17 +126,21 @@ fn solve<R: Threads + Wait + Sync, A: Source, C: Sink, D: Sink, G: Gate>(
         (streams (A.left cnf.new) (A.faults cnf.new)
         (C.written out.new) (C.faults out.new) (D.written proof.new) (D.faults proof.new))
         result }
+    ensures calm { IsWellRead result.status → A.faults cnf.new ≡ A.faults cnf.old }
+    ensures out { result.status ≡ Status.ReadFault → out.new ≡ out.old }
+    ensures calm_out { IsWellWritten result.status → C.faults out.new ≡ C.faults out.old }
     ensures proof { SparesProof result.status → proof.new ≡ proof.old }
     ensures unrefuted { (IsRefuted (A.left cnf.old) (A.left cnf.new) → ⊥) → proof.new ≡ proof.old }
-    ensures out { result.status ≡ Status.ReadFault → out.new ≡ out.old }
-    ensures calm { IsWellRead result.status → A.faults cnf.new ≡ A.faults cnf.old }
-    ensures calm_out { IsWellWritten result.status → C.faults out.new ≡ C.faults out.old }
+    ensures calm_proof { IsWellWritten result.status → D.faults proof.new ≡ D.faults proof.old }
 {
     if options.reducers == 0 {
         return run_alone(alloc, options, cnf, out, proof);
     }
     match read_formula(alloc, cnf) {
-        Ok(formula) => answer_beside(rt, alloc, options, &formula, out, proof, gate),
+        Ok(formula) => {
+            let ran = solve_shared(rt, alloc, &formula, options, gate);
+            answer(alloc, ran, out, proof)
+        }
         Err(failed) => report_unread(alloc, failed, out),
     }
 }
@@ -163,57 +168,34 @@ pub fn run_alone<A: Source, C: Sink, D: Sink>(
     ensures out { result.status ≡ Status.ReadFault → out.new ≡ out.old }
     ensures calm { IsWellRead result.status → A.faults cnf.new ≡ A.faults cnf.old }
     ensures calm_out { IsWellWritten result.status → C.faults out.new ≡ C.faults out.old }
+    ensures calm_proof { IsWellWritten result.status → D.faults proof.new ≡ D.faults proof.old }
 {
     match read_formula(alloc, cnf) {
-        Ok(formula) => answer_alone(alloc, options, &formula, out, proof),
+        Ok(formula) => answer(alloc, solve_alone(alloc, &formula, options), out, proof),
         Err(failed) => report_unread(alloc, failed, out),
     }
 }
 
-/// Decides the formula on one thread, and tells the verdict.
-fn answer_alone<C: Sink, D: Sink>(
+/// Tells what a run on the formula found, or that memory was wanting for it.
+fn answer<C: Sink, D: Sink>(
     alloc: Global,
-    options: &SolveOptions,
-    formula: &Formula,
+    ran: Result<Ran, OutOfMemory>,
     out: &mut C,
     proof: &mut D,
 ) -> Report
-    requires alone { options.now.reducers ≡ 0 }
-    requires in_range { AreInRange options.now }
-    ensures answers { Answers formula.now options.now
+    requires ids { IfOk ran (λ ran. All HasIds (lines_in ran.diary)) }
+    ensures answers { (f : Cnf) (o : SolveOptions) → IfOk ran (IsRan f o)
+        → IfOk ran (λ ran. All (IsOfferedUpTo o.offer) ran.diary.entries) → Answers f o
         (sinks (C.written out.old) (C.faults out.old) (D.written proof.old) (D.faults proof.old))
         (sinks (C.written out.new) (C.faults out.new) (D.written proof.new) (D.faults proof.new))
         result }
     ensures proof { SparesProof result.status → proof.new ≡ proof.old }
-    ensures unrefuted { (HasRefutation formula.now → ⊥) → proof.new ≡ proof.old }
+    ensures unrefuted { (f : Cnf) (o : SolveOptions) → IfOk ran (IsRan f o) → (HasRefutation f → ⊥)
+        → proof.new ≡ proof.old }
     ensures calm_out { IsWellWritten result.status → C.faults out.new ≡ C.faults out.old }
+    ensures calm_proof { IsWellWritten result.status → D.faults proof.new ≡ D.faults proof.old }
 {
-    match solve_alone(alloc, formula, options) {
-        Ok(ran) => tell(alloc, ran, out, proof),
-        Err(_) => Report::bare(alloc, Status::OutOfMemory),
-    }
-}
-
-/// Decides the formula beside reducers, and tells the verdict.
-fn answer_beside<R: Threads + Wait + Sync, C: Sink, D: Sink, G: Gate>(
-    rt: &R,
-    alloc: Global,
-    options: &SolveOptions,
-    formula: &Formula,
-    out: &mut C,
-    proof: &mut D,
-    gate: &G,
-) -> Report
-    requires in_range { AreInRange options.now }
-    ensures answers { Answers formula.now options.now
-        (sinks (C.written out.old) (C.faults out.old) (D.written proof.old) (D.faults proof.old))
-        (sinks (C.written out.new) (C.faults out.new) (D.written proof.new) (D.faults proof.new))
-        result }
-    ensures proof { SparesProof result.status → proof.new ≡ proof.old }
-    ensures unrefuted { (HasRefutation formula.now → ⊥) → proof.new ≡ proof.old }
-    ensures calm_out { IsWellWritten result.status → C.faults out.new ≡ C.faults out.old }
-{
-    match solve_shared(rt, alloc, formula, options, gate) {
+    match ran {
         Ok(ran) => tell(alloc, ran, out, proof),
         Err(_) => Report::bare(alloc, Status::OutOfMemory),
     }
@@ -231,6 +213,7 @@ fn tell<C: Sink, D: Sink>(alloc: Global, ran: Ran, out: &mut C, proof: &mut D) -
     ensures unrefuted { (f : Cnf) (o : SolveOptions) → IsRan f o ran → (HasRefutation f → ⊥)
         → proof.new ≡ proof.old }
     ensures calm_out { IsWellWritten result.status → C.faults out.new ≡ C.faults out.old }
+    ensures calm_proof { IsWellWritten result.status → D.faults proof.new ≡ D.faults proof.old }
 {
     match ran.verdict {
         Verdict::Satisfiable => {
@@ -262,6 +245,7 @@ fn write_refutation<C: Sink, D: Sink>(
         (sinks (C.written out.old) (C.faults out.old) (D.written proof.old) (D.faults proof.old))
         (sinks (C.written out.new) (C.faults out.new) (D.written proof.new) (D.faults proof.new))) }
     ensures calm_out { OnOk result (C.faults out.new ≡ C.faults out.old) }
+    ensures calm_proof { OnOk result (D.faults proof.new ≡ D.faults proof.old) }
 {
     // The log is whole before the verdict begins: no verdict stands over a torn log.
     match write_history(diary, proof) {

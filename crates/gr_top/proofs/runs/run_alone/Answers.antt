@@ -1,19 +1,29 @@
-use Rattle.gr_top.proofs.Called.{answer-solves}
 use Rattle.gr_top.proofs.Answered.{answer-is-no-read-fault}
+use Rattle.gr_top.proofs.Called.{answer-solves}
+use Rattle.gr_top.proofs.Reported.{ids-of}
 use Rattle.gr_top.proofs.runs.run_alone.Goals as goal
+
+pub answer-requires : goal.answer-requires
+answer-requires g c = record {
+  ids = ids-of c.in-Ok.formula c.args.options.now c.solve_alone.result c.solve_alone.ensures.ran;
+}
 
 pub returns-in-Ok-clause-solves : goal.returns-in-Ok-clause-solves
 returns-in-Ok-clause-solves g c =
-    answer-solves c.args.options.now _ _ c.in-Ok.formula c.answer_alone.result
-    c.in-Ok.ensures.answer c.answer_alone.ensures.answers
+    answer-solves c.args.options.now _ _ c.in-Ok.formula c.answer.result c.in-Ok.ensures.answer
+    (c.answer.ensures.answers c.in-Ok.formula c.args.options.now c.solve_alone.ensures.ran
+    c.solve_alone.ensures.offered)
 
 pub returns-in-Ok-clause-unrefuted : goal.returns-in-Ok-clause-unrefuted
 returns-in-Ok-clause-unrefuted g c none =
-    c.answer_alone.ensures.unrefuted (λ has. none (c.in-Ok.formula, c.in-Ok.ensures.answer, has))
+    c.answer.ensures.unrefuted c.in-Ok.formula c.args.options.now c.solve_alone.ensures.ran
+    (λ has. none (c.in-Ok.formula, c.in-Ok.ensures.answer, has))
 
 pub returns-in-Ok-clause-out : goal.returns-in-Ok-clause-out
 returns-in-Ok-clause-out g c is =
-    absurd (answer-is-no-read-fault c.answer_alone.result _ _ _ _ is c.answer_alone.ensures.answers)
+    absurd (answer-is-no-read-fault c.answer.result _ _ _ _ is
+    (c.answer.ensures.answers c.in-Ok.formula c.args.options.now c.solve_alone.ensures.ran
+    c.solve_alone.ensures.offered))
 
 pub returns-in-Ok-clause-calm : goal.returns-in-Ok-clause-calm
 returns-in-Ok-clause-calm g c well = c.in-Ok.ensures.calm tt

@@ -1,19 +1,29 @@
-use Rattle.gr_top.proofs.Called.{answer-solves}
 use Rattle.gr_top.proofs.Answered.{answer-is-no-read-fault}
+use Rattle.gr_top.proofs.Called.{answer-solves}
+use Rattle.gr_top.proofs.Reported.{ids-of}
 use Rattle.gr_top.proofs.runs.solve.Goals as goal
+
+pub answer-requires : goal.answer-requires
+answer-requires g c = record {
+  ids = ids-of c.in-Ok.formula c.args.options.now c.solve_shared-ran.result c.solve_shared-ran.ensures.ran;
+}
 
 pub returns-in-Ok-clause-solves : goal.returns-in-Ok-clause-solves
 returns-in-Ok-clause-solves g c =
-    answer-solves c.args.options.now _ _ c.in-Ok.formula c.answer_beside.result
-    c.in-Ok.ensures.answer c.answer_beside.ensures.answers
+    answer-solves c.args.options.now _ _ c.in-Ok.formula c.answer.result c.in-Ok.ensures.answer
+    (c.answer.ensures.answers c.in-Ok.formula c.args.options.now c.solve_shared-ran.ensures.ran
+    c.solve_shared-ran.ensures.offered)
 
 pub returns-in-Ok-clause-unrefuted : goal.returns-in-Ok-clause-unrefuted
 returns-in-Ok-clause-unrefuted g c none =
-    c.answer_beside.ensures.unrefuted (λ has. none (c.in-Ok.formula, c.in-Ok.ensures.answer, has))
+    c.answer.ensures.unrefuted c.in-Ok.formula c.args.options.now c.solve_shared-ran.ensures.ran
+    (λ has. none (c.in-Ok.formula, c.in-Ok.ensures.answer, has))
 
 pub returns-in-Ok-clause-out : goal.returns-in-Ok-clause-out
 returns-in-Ok-clause-out g c is =
-    absurd (answer-is-no-read-fault c.answer_beside.result _ _ _ _ is c.answer_beside.ensures.answers)
+    absurd (answer-is-no-read-fault c.answer.result _ _ _ _ is
+    (c.answer.ensures.answers c.in-Ok.formula c.args.options.now c.solve_shared-ran.ensures.ran
+    c.solve_shared-ran.ensures.offered))
 
 pub returns-in-Ok-clause-calm : goal.returns-in-Ok-clause-calm
 returns-in-Ok-clause-calm g c well = c.in-Ok.ensures.calm tt

@@ -39,6 +39,11 @@ returns-in-Unsatisfiable-clause-calm_out g c well =
     where-written c.write_refutation-done.result _ _ c.reported-in-Unsatisfiable.ensures.status well
     c.write_refutation-done.ensures.calm_out
 
+pub returns-in-Unsatisfiable-clause-calm_proof : goal.returns-in-Unsatisfiable-clause-calm_proof
+returns-in-Unsatisfiable-clause-calm_proof g c well =
+    where-written c.write_refutation-done.result _ _ c.reported-in-Unsatisfiable.ensures.status well
+    c.write_refutation-done.ensures.calm_proof
+
 pub returns-in-Unknown-clause-calm_out : goal.returns-in-Unknown-clause-calm_out
 returns-in-Unknown-clause-calm_out g c well =
     where-written c.write_unknown-done.result _ _ c.reported-in-Unknown.ensures.status well
