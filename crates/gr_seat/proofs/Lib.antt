@@ -1,3 +1,4 @@
+mod Held
 pub mod Later
 pub mod Made
 mod Runs
