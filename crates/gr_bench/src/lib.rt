@@ -25,4 +25,6 @@ pub use benches::Bench;
 #[cfg(test)]
 mod calls;
 #[cfg(test)]
+mod long_runs;
+#[cfg(test)]
 mod tests;
