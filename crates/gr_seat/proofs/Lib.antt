@@ -1,3 +1,4 @@
+mod Alone
 mod Held
 pub mod Later
 pub mod Made

@@ -1,9 +1,10 @@
-// Whole histories, made through seats on one thread, and their proof logs.
-ghost use Rattle.std.specs.Prelude.{◌≡◌, ◌+◌, ◌∷◌, [], IfOk};
+// What a reducer that ends early leaves, in a whole history made through seats on one thread.
+ghost use Rattle.std.specs.Prelude.{◌≡◌, ◌+◌, ◌∷◌, [], true, IfOk};
+ghost use Rattle.gr_diary.specs.Examples.{plus};
 ghost use Rattle.gr_diary.specs.ExampleRuns.{skips};
-ghost use Rattle.gr_diary.specs.declared.entries.Entry.TheVariants.{Forget};
+ghost use Rattle.gr_diary.specs.declared.entries.Entry.TheVariants.{Learn, Forget};
 ghost use Rattle.gr_seat.specs.Handles.{Enables, HasSameExchange};
-ghost use Rattle.gr_seat.specs.Turns.{IsSameSeat, IsCounted};
+ghost use Rattle.gr_seat.specs.Turns.{IsSameSeat, IsCounted, Makes};
 
 use crate::tests::{ids, share};
 use crate::{ReducerSeat, Shared, SharedBench, SolverSeat};
@@ -15,7 +16,7 @@ use std::sync::Wait;
 use std::test::Fail;
 
 /// The formula `1 -2`, `1 2 3 4`, `1 2 3 -4`.
-fn skips(alloc: Global) -> Result<Formula, OutOfMemory>
+pub(crate) fn skips(alloc: Global) -> Result<Formula, OutOfMemory>
     ensures { IfOk result (λ formula. formula ≡ skips) }
 {
     let mut formula = Formula::new(alloc, 4);
@@ -28,7 +29,7 @@ fn skips(alloc: Global) -> Result<Formula, OutOfMemory>
 }
 
 /// The searching thread offers `1 2 3`, the first that it does. It may let the clause go from then on.
-fn offer_three<R: Wait>(
+pub(crate) fn offer_three<R: Wait>(
     rt: &R,
     alloc: Global,
     bench: &SharedBench,
@@ -38,6 +39,8 @@ fn offer_three<R: Wait>(
     requires first { seat.old.seen ≡ [] }
     ensures same { IsSameSeat seat.old seat.new × IsCounted seat.old seat.new }
     ensures held { IfOk result (λ id. Enables seat.new (Forget 0 (id ∷ []))) }
+    ensures made { IfOk result (λ id. Makes seat.old seat.new
+        (Learn (plus 1 ∷ plus 2 ∷ plus 3 ∷ []) (2 ∷ 3 ∷ []) 2 true) (λ s. id ≡ s.next)) }
 {
     let lits = [
         Lit::of_var(1, true),
@@ -95,7 +98,7 @@ fn let_go<R: Wait>(
 }
 
 /// The lines of the proof log, one below the other.
-fn log_of(alloc: Global, diary: &Diary) -> Result<String, Fail> {
+pub(crate) fn log_of(alloc: Global, diary: &Diary) -> Result<String, Fail> {
     let mut told = String::new(alloc);
     let mut lines = diary.lines();
     for _ in 0..1000 {
