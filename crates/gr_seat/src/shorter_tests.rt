@@ -1,8 +1,9 @@
 // A clause given back shorter, in a whole history made through seats on one thread.
-ghost use Rattle.std.specs.Prelude.{◌≡◌, [], take, length, IfOk};
+ghost use Rattle.std.specs.Prelude.{◌≡◌, ◌+◌, [], ◌∷◌, ◌++◌, take, length, IfOk};
 ghost use mathlib.Core.List.{IsPrefix};
 ghost use Rattle.gr_diary.specs.ExampleRuns.{skips, skipping_run};
 ghost use Rattle.gr_diary.specs.declared.entries.Entry.TheVariants.{Take};
+ghost use Rattle.gr_diary.specs.Histories.{entries_of};
 ghost use Rattle.gr_seat.specs.Handles.{Enables};
 ghost use Rattle.gr_seat.specs.Turns.{IsSameSeat, IsCounted};
 
@@ -16,7 +17,7 @@ use std::sync::Wait;
 use std::test::Fail;
 
 /// How many entries there are by now: a turn that makes none.
-fn count<R: Wait>(rt: &R, bench: &SharedBench, seat: &mut SolverSeat) -> u64
+pub(crate) fn count<R: Wait>(rt: &R, bench: &SharedBench, seat: &mut SolverSeat) -> u64
     requires { seat.old.lock ≡ bench.now }
     ensures same { IsSameSeat seat.old seat.new × IsCounted seat.old seat.new }
     ensures seen { IsPrefix seat.old.seen seat.new.seen }
@@ -60,22 +61,28 @@ fn offer_alone<R: Wait>(
     Ok(id)
 }
 
-/// The reducer takes it, which is the second entry.
-fn take_alone<R: Wait>(rt: &R, bench: &SharedBench, seat: &mut ReducerSeat) -> Result<Taken, Fail>
-    requires at { (seat.old.lock ≡ bench.now) × (seat.old.formula ≡ skips) }
-    requires sizes { (seat.old.reducers ≡ 1) × (seat.old.capacity ≡ 1) × (seat.old.actor ≡ 1) }
-    requires second { seat.old.seen ≡ take 1 skipping_run }
+/// A reducer takes a clause for the first time, with which there are so many entries.
+pub(crate) fn take_alone<R: Wait>(
+    rt: &R,
+    bench: &SharedBench,
+    seat: &mut ReducerSeat,
+    entries: u64,
+) -> Result<Taken, Fail>
+    requires lock { seat.old.lock ≡ bench.now }
+    requires none { entries_of seat.old.seen seat.old.actor ≡ [] }
+    requires entries { entries ≡ length seat.old.seen + 1 }
     ensures same { IsSameSeat seat.old seat.new }
-    ensures seen { IfOk result (λ _. seat.new.seen ≡ take 2 skipping_run) }
+    ensures seen { IfOk result (λ _. seat.new.seen ≡ seat.old.seen ++ Take seat.old.actor ∷ []) }
 {
+    let _actor = seat.actor();
     let taken = bench.take(rt, seat)?;
-    if count_too(rt, bench, seat) != 2 {
+    if count_too(rt, bench, seat) != entries {
         return Err(Fail::from("other entries"));
     }
     Ok(taken)
 }
 
-/// It gives its part `1 3` back. It may take another clause then.
+/// It gives the part `1 3` of its clause back. It may take another clause then.
 fn give_shorter<R: Wait>(
     rt: &R,
     alloc: Global,
@@ -84,7 +91,7 @@ fn give_shorter<R: Wait>(
 ) -> Result<Option<u64>, BenchError>
     requires at { (seat.old.lock ≡ bench.now) × (seat.old.formula ≡ skips) }
     requires sizes { (seat.old.reducers ≡ 1) × (seat.old.capacity ≡ 1) × (seat.old.actor ≡ 1) }
-    requires third { seat.old.seen ≡ take 2 skipping_run }
+    requires third { seat.old.seen ≡ take 1 skipping_run ++ Take seat.old.actor ∷ [] }
     ensures same { IsSameSeat seat.old seat.new }
     ensures free { IfOk result (λ _. Enables seat.new (Take seat.new.actor)) }
 {
@@ -112,7 +119,7 @@ fn log_so_far<R: Wait>(
 }
 
 /// The searching thread takes a result over: the id that it stands for, and its own.
-fn import_one<R: Wait>(
+pub(crate) fn import_one<R: Wait>(
     rt: &R,
     bench: &SharedBench,
     seat: &mut SolverSeat,
@@ -142,7 +149,7 @@ fn a_shorter_clause_stands_for_the_one_that_was_taken(rt: HostRuntime) -> Result
     let Shared { bench, mut solver } = share(alloc, &formula, 1)?;
     let offered = offer_alone(&rt, alloc, &bench, &mut solver)?;
     let mut reducer = bench.reducer_seat(&mut solver);
-    let taken = take_alone(&rt, &bench, &mut reducer)?;
+    let taken = take_alone(&rt, &bench, &mut reducer, 2)?;
     let shorter = give_shorter(&rt, alloc, &bench, &mut reducer)?;
     assert_eq!(rt; (offered, taken.id, shorter), (4, 4, Some(5)));
     // The lines `4 1 2 3 0 2 3 0` and `5 1 3 0 1 2 3 0`: the searching thread holds 4 still.
