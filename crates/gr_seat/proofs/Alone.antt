@@ -1,6 +1,6 @@
 -- histories that the searching thread and one reducer make alone, entry by entry
 use Rattle.std.proofs.Common.{◌≡◌, ◌≤◌, ◌<◌, ◌+◌, ℕ, true, nat_eq, if◌then◌else◌, List, [], ◌∷◌, ◌++◌, length, take}
-use Rattle.std.proofs.Common.{length-append, Some, None, refl, sym, ap, ◌∙◌, subst, arith}
+use Rattle.std.proofs.Common.{length-append, Option, Some, None, IfSome, refl, sym, ap, ◌∙◌, subst, arith}
 use Rattle.std.proofs.lemmas.List.{append-nil}
 use mathlib.Core.List.{IsPrefix}
 use Rattle.gr_logic.specs.Formulas.{Cnf}
@@ -87,10 +87,11 @@ returned_may_take s t outcome Told turn makes above within =
     (above, subst (λ (n : ℕ). s.actor ≤ n) (sym same.reducers) within, none_left s t outcome Told turn makes)
 
 -- and may let the shorter one go
-pub shorter_may_go : (s t : Handle) (c : List Literal) (hints : List ℕ) (id : ℕ) → TakesTurn s t
-    → Makes s t (Return s.actor (Shorter c hints)) (λ x. Some id ≡ id_of_outcome x (Shorter c hints))
-    → s.actor ≤ s.reducers → Enables t (Forget t.actor (id ∷ []))
-shorter_may_go s t c hints id turn makes within =
+pub shorter_may_go : (s t : Handle) (c : List Literal) (hints : List ℕ) (told : Option ℕ) → TakesTurn s t
+    → Makes s t (Return s.actor (Shorter c hints)) (λ x. told ≡ id_of_outcome x (Shorter c hints))
+    → s.actor ≤ s.reducers → IfSome told (λ id. Enables t (Forget t.actor (id ∷ [])))
+shorter_may_go s t c hints None turn makes within = tt
+shorter_may_go s t c hints (Some id) turn makes within =
     let same = turn.sees.same in
     let Told : State → Type 0 = λ x. Some id ≡ id_of_outcome x (Shorter c hints) in
     subst (λ (n : ℕ). Enables t (Forget n (id ∷ []))) (sym same.actor)

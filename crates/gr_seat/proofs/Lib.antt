@@ -1,4 +1,5 @@
 mod Alone
+mod DrivingOut
 mod Held
 pub mod Later
 pub mod Made
