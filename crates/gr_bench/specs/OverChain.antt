@@ -1,5 +1,5 @@
 -- what a long run of calls over one formula keeps
-use Rattle.std.specs.Prelude.{◌≡◌, ℕ}
+use Rattle.std.specs.Prelude.{◌≡◌}
 use Rattle.gr_diary.specs.Histories.{IsLegal}
 use Rattle.gr_diary.specs.Examples.{chain}
 use Rattle.gr_bench.specs.Exchanges.{Exchange}

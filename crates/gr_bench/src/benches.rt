@@ -5,7 +5,7 @@ ghost use Rattle.gr_bench.specs.Exchanges.{IsClosedAt, IsOpenAt, IsGrown, IsUnch
 
 use crate::answers::Closing;
 use crate::books::Books;
-use crate::copies::copy_of;
+use crate::formula_views::FormulaView;
 use gr_diary::Diary;
 use gr_logic::{Formula, OutOfMemory};
 use std::alloc::Global;
@@ -17,7 +17,8 @@ use std::marker::Model;
 #[derive(Drop)]
 pub struct Bench {
     pub(crate) alloc: Global,
-    pub(crate) formula: Formula,
+    /// What a contract sees of the formula. It takes no memory, since no call reads it.
+    pub(crate) formula: FormulaView,
     pub(crate) reducers: u32,
     pub(crate) capacity: usize,
     pub(crate) books: Books,
@@ -57,13 +58,14 @@ impl Bench {
         ensures capacity { IfOk result (λ bench. bench.capacity ≡ capacity) }
         ensures entries { IfOk result (λ bench. bench.diary.entries ≡ []) }
     {
-        let formula = copy_of(alloc, formula)?;
+        // The number of variables says that they are few.
+        let _vars = formula.vars();
         let first_id = formula.clauses().len() as u64 + 1;
         let books = Books::new(alloc, first_id, capacity)?;
         let diary = Diary::new(alloc, first_id)?;
         Ok(Bench {
             alloc,
-            formula,
+            formula: FormulaView::of(formula),
             reducers,
             capacity,
             books,

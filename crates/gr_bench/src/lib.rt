@@ -5,9 +5,9 @@
 mod answers;
 mod benches;
 mod books;
-mod copies;
 mod crossing;
 mod forgetting;
+mod formula_views;
 mod holdings;
 mod importing;
 mod learning;
