@@ -46,10 +46,12 @@ impl SharedBench {
     {
         let _actor = seat.actor();
         for _ in rt.forever() {
+            // Read before the look, so that a clause that is offered after it is a call not seen yet.
+            let calls = self.bell.calls();
             match self.take(rt, seat) {
                 Ok(taken) => return Ok(taken),
                 // A wait that ends without a signal does no harm: it is only tried again.
-                Err(TakeError::Idle) => seat.parker.park(rt),
+                Err(TakeError::Idle) => self.bell.wait(rt, &seat.parker, calls),
                 Err(TakeError::Closed) => return Err(BenchError::Closed),
                 Err(TakeError::OutOfMemory) => return Err(BenchError::OutOfMemory),
             }

@@ -6,9 +6,10 @@ ghost use Rattle.gr_turn.specs.Views.{longer};
 ghost use Rattle.gr_seat.specs.Handles.{IsOf, HasSameExchange, HasSeenLegal};
 ghost use Rattle.gr_seat.specs.Turns.{IsSameSeat, HasSeenThat};
 
+use crate::calling::Bell;
 use crate::seats::{ReducerSeat, SolverSeat};
 use crate::shelves::Shelf;
-use crossbeam_utils::sync::{Parker, Unparker};
+use crossbeam_utils::sync::Parker;
 use gr_bench::Bench;
 use gr_logic::OutOfMemory;
 use gr_turn::{Opened, Turn};
@@ -19,8 +20,8 @@ use std::marker::Model;
 #[derive(Drop)]
 pub struct SharedBench {
     pub(crate) turn: Turn<Shelf>,
-    /// What wakes the reducers that wait for work.
-    unparkers: Vec<Unparker>,
+    /// What calls the reducers that wait for work.
+    pub(crate) bell: Bell,
 }
 
 impl Model for SharedBench {
@@ -58,7 +59,10 @@ impl SharedBench {
         }
         let Opened { turn, seat } = Turn::open(alloc, Shelf { bench })?;
         Ok(Shared {
-            bench: SharedBench { turn, unparkers },
+            bench: SharedBench {
+                turn,
+                bell: Bell::new(unparkers),
+            },
             solver: SolverSeat {
                 seat,
                 seated: 0,
@@ -115,7 +119,7 @@ impl SharedBench {
         ensures seen { IsPrefix solver.seen result.diary.entries }
         ensures fixed { IsOf result solver }
     {
-        let SharedBench { turn, unparkers: _ } = self;
+        let SharedBench { turn, bell: _ } = self;
         let SolverSeat {
             seat,
             seated: _,
@@ -125,12 +129,10 @@ impl SharedBench {
         bench
     }
 
-    /// Wakes each reducer that waits for work, where there may be some, or none will come any more.
+    /// Calls each reducer that waits for work, where there may be some, or none will come any more.
     pub(crate) fn wake_if(&self, wakes: bool) {
         if wakes {
-            for unparker in &self.unparkers {
-                unparker.unpark();
-            }
+            self.bell.ring();
         }
     }
 }
