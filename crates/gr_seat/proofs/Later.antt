@@ -4,7 +4,6 @@ use mathlib.Core.List.{IsPrefix}
 use Rattle.gr_diary.specs.declared.entries.Entry.{Entry}
 use Rattle.gr_diary.specs.Entries.{actor_of}
 use Rattle.gr_diary.specs.Histories.{IsLegal, IsEnabled, entries_of, state_of}
-use Rattle.gr_diary.specs.Laws.{IsSeenBy}
 use Rattle.gr_diary.proofs.Own.{enabled-stays}
 use Rattle.gr_logic.specs.Formulas.{Cnf}
 use Rattle.gr_bench.specs.Exchanges.{Exchange, IsEnabledAt, Tells}

@@ -1,5 +1,5 @@
 -- the entry that a turn made
-use Rattle.std.proofs.Common.{◌≡◌, Bool, true, false, MatchBool, refl, Some, List, [], ◌∷◌, ◌++◌, ap, sym, ◌∙◌, subst}
+use Rattle.std.proofs.Common.{◌≡◌, Bool, true, false, MatchBool, refl, Some, [], ◌∷◌, ◌++◌, ap, sym, ◌∙◌, subst}
 use Rattle.std.proofs.Common.{Result, Ok, Err, IfOk}
 use Rattle.std.specs.Result.{is_ok}
 use Rattle.std.proofs.lemmas.List.{append_cancel_left}

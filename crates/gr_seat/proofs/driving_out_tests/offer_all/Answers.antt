@@ -1,5 +1,4 @@
-use Rattle.std.proofs.Common.{rules, ◌≡◌, ◌∷◌, [], ◌++◌, map, take, true, arith}
-use Rattle.gr_diary.specs.Examples.{plus}
+use Rattle.std.proofs.Common.{rules, ◌∷◌, [], take}
 use Rattle.gr_diary.specs.ExampleRuns.{shortening_run}
 use Rattle.gr_seat.proofs.DrivingOut.{IsAtPairs, stays_at_pairs, offer_first, offer_second, offer_third, one_more}
 use Rattle.gr_seat.proofs.driving_out_tests.offer_all.Goals as goal

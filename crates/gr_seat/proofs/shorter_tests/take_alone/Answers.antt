@@ -1,4 +1,4 @@
-use Rattle.std.proofs.Common.{rules, ◌≡◌, ◌<◌, ◌≤◌, ℕ, arith, subst}
+use Rattle.std.proofs.Common.{rules, ◌<◌, ◌≤◌, ℕ, arith, subst}
 use Rattle.gr_bench.specs.Answers.{IsBestOffer}
 use Rattle.gr_diary.specs.declared.entries.Entry.TheVariants.{Take}
 use Rattle.gr_seat.proofs.Alone.{next_entry, first_may_take}

@@ -1,4 +1,4 @@
-use Rattle.std.proofs.Common.{rules, ◌≡◌, true, sym, subst}
+use Rattle.std.proofs.Common.{rules, sym, subst}
 use Rattle.gr_diary.specs.declared.entries.Entry.{Entry}
 use Rattle.gr_diary.specs.declared.entries.Entry.TheVariants.{Close}
 use Rattle.gr_turn.specs.Seats.{Sitting}

@@ -1,9 +1,6 @@
-use Rattle.std.proofs.Common.{rules, ◌≡◌, refl, ap, sym, ◌∙◌, subst, Some}
-use mathlib.Core.List.{IsPrefix}
+use Rattle.std.proofs.Common.{rules, sym, subst}
 use Rattle.gr_diary.specs.declared.entries.Entry.TheVariants.{Learn}
-use Rattle.gr_diary.specs.Entries.{actor_of}
-use Rattle.gr_turn.specs.Views.{by}
-use Rattle.gr_seat.specs.Handles.{fixed_of, Enables}
+use Rattle.gr_seat.specs.Handles.{Enables}
 use Rattle.gr_seat.proofs.Later.{enabled_at_turn}
 use Rattle.gr_seat.proofs.shared_benches.SharedBench.learn.Goals as goal
 
